@@ -1,0 +1,5 @@
+pub mod Kinds
+pub mod Limits
+pub mod Sound
+pub mod Refusals
+pub mod View
