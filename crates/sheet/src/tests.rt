@@ -1,14 +1,24 @@
 // Refusals at their limits and one past them, each unsound token alone, several at once; pieces.
+use crate::Piece;
+use crate::Sheet;
+use crate::SheetRefusal;
+use crate::Token;
 use crate::kind;
-use crate::limits::{MAX_TEXT, MAX_TOKENS};
-use crate::{Piece, Sheet, SheetRefusal, Token};
+use crate::limits::MAX_TEXT;
+use crate::limits::MAX_TOKENS;
 use std::test::*;
 
 const PAGE: &[u8] = b"12:;,|\"\\\n x";
+
 const REPLACEMENT: &[u8] = b"34\n|";
 
 const fn token(kind: u8, replaced: bool, start: u32, length: u32) -> Token {
-    Token { kind, replaced, start, length }
+    Token {
+        kind,
+        replaced,
+        start,
+        length,
+    }
 }
 
 // The refusal's number and, of 12, the token; 0 and the number of tokens where there is a sheet.
@@ -21,7 +31,13 @@ fn answer<'a>(page: &'a [u8], replacement: &'a [u8], tokens: &'a [Token]) -> (u8
     }
 }
 
-fn expect(page: &[u8], replacement: &[u8], tokens: &[Token], number: u8, value: usize) -> Result<(), Fail> {
+fn expect(
+    page: &[u8],
+    replacement: &[u8],
+    tokens: &[Token],
+    number: u8,
+    value: usize,
+) -> Result<(), Fail> {
     let (n, v) = answer(page, replacement, tokens);
     check_eq(n, number)?;
     check_eq(v, value)
@@ -97,7 +113,9 @@ fn limits_and_their_order(rt: LibcRuntime) -> Result<(), Fail> {
     let bad = token(kind::EOF, false, 0, 1);
     let many = vec![in heap; bad; MAX_TOKENS + 1]?;
     let good = vec![in heap; token(kind::WORD, false, 0, 1); MAX_TOKENS + 1]?;
-    check(text.len() == MAX_TEXT + 1 && many.len() == MAX_TOKENS + 1 && good.len() == MAX_TOKENS + 1)?;
+    check(
+        text.len() == MAX_TEXT + 1 && many.len() == MAX_TOKENS + 1 && good.len() == MAX_TOKENS + 1,
+    )?;
     let long = text.as_slice();
     let full = &long[0..MAX_TEXT];
     let (most, over) = (&good.as_slice()[0..MAX_TOKENS], good.as_slice());
@@ -113,12 +131,20 @@ fn limits_and_their_order(rt: LibcRuntime) -> Result<(), Fail> {
 }
 
 fn piece(token: u32, offset: u32, length: u32) -> Piece {
-    Piece { token, offset, length }
+    Piece {
+        token,
+        offset,
+        length,
+    }
 }
 
 #[test]
 fn pieces() -> Result<(), Fail> {
-    let tokens = [token(kind::DIGITS, false, 0, 2), token(kind::DIGITS, true, 0, 2), token(kind::PIPE, true, 3, 1)];
+    let tokens = [
+        token(kind::DIGITS, false, 0, 2),
+        token(kind::DIGITS, true, 0, 2),
+        token(kind::PIPE, true, 3, 1),
+    ];
     let mut sheet = Sheet::empty();
     check(sheet.load(PAGE, REPLACEMENT, &tokens).is_ok())?;
     check_eq(sheet.bytes(piece(0, 0, 2)).ok_or("none")?, b"12")?;
