@@ -11,7 +11,7 @@ use Rattle.std.specs.Finite.{nth}
 use Rattle.std.specs.declared.option.Option.{Option}
 use Rattle.std.specs.declared.option.Option.the-variants.{Some, None}
 use Rattle.std.proofs.shelf.Lists.{at-drop-more}
-use Rattle.std.proofs.shelf.Tests.{leb-true, lt-ltb, le-leb, and-parts, and-from, cond-true, cond-false}
+use Rattle.std.proofs.shelf.Tests.{leb-true, ltb-true, lt-ltb, le-leb, and-parts, and-from, cond-true, cond-false}
 use Rattle.sheet.specs.Sound.{textOf, tokenBytes, isKind, bytesFit, flagFits, soundToken, allSound, firstUnsound}
 use Rattle.sheet.specs.declared.records.Token.{Token}
 
@@ -62,3 +62,18 @@ module _ (page replacement : List ℕ) (ts : List Token) (i : ℕ) (t : Token) (
 
   pub first-later : soundToken page replacement t ≡ true → firstUnsound page replacement i (drop i ts) ≡ firstUnsound page replacement (i + 1) (drop (i + 1) ts)
   first-later ok = first-step ∙ cond-true (soundToken page replacement t) _ _ ok
+
+-- a sound token has a byte
+pub has-byte : (page replacement : List ℕ) (t : Token) → soundToken page replacement t ≡ true → 0 < t .length
+has-byte page replacement t h = ltb-true 0 (t .length) (and-parts (ltb 0 (t .length)) _ (and-parts (isKind (t .kind)) _ h .1) .0)
+
+-- what is left of sound tokens is sound
+pub sound-drop : (page replacement : List ℕ) (n : ℕ) (ts : List Token) → allSound page replacement ts ≡ true → allSound page replacement (drop n ts) ≡ true
+sound-drop page replacement zero ts h = h
+sound-drop page replacement (suc n) [] h = h
+sound-drop page replacement (suc n) (t ∷ ts) h = sound-drop page replacement n ts (and-parts (soundToken page replacement t) (allSound page replacement ts) h .1)
+
+-- the token in front of what is left is sound
+pub sound-front : (page replacement : List ℕ) (n : ℕ) (ts us : List Token) (t : Token) → allSound page replacement ts ≡ true → drop n ts ≡ t ∷ us → soundToken page replacement t ≡ true
+sound-front page replacement n ts us t h e =
+    and-parts (soundToken page replacement t) (allSound page replacement us) (sym (ap (allSound page replacement) e) ∙ sound-drop page replacement n ts h) .0

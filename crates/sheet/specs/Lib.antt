@@ -3,3 +3,4 @@ pub mod Limits
 pub mod Sound
 pub mod Refusals
 pub mod View
+pub mod Left

@@ -1,7 +1,7 @@
 -- What a sheet holds, and what a piece is on it.
 -- Assumes nothing.
 use Prim.Native.Nat.{ℕ, _+_}
-use mathlib.Core.Bool.{Bool, cond}
+use mathlib.Core.Bool.{Bool, false, cond}
 use mathlib.Core.List.{List}
 use lib.Dec.{eqb, leb}
 use lib.ListN.{take, drop}
@@ -10,7 +10,7 @@ use Rattle.std.specs.Finite.{nth}
 use Rattle.std.specs.Options.{mapped}
 use Rattle.std.specs.declared.option.Option.{Option}
 use Rattle.std.specs.declared.option.Option.the-variants.{Some, None}
-use Rattle.sheet.specs.Kinds.{word}
+use Rattle.sheet.specs.Kinds.{newline, word}
 use Rattle.sheet.specs.Sound.{textOf}
 use Rattle.sheet.specs.declared.page.Sheet.{Sheet}
 use Rattle.sheet.specs.declared.records.Piece.{Piece}
@@ -55,3 +55,11 @@ pieceBytes v p = mapped (λ t. partOf (v .page) (v .replacement) t p) (around v 
 -- has none
 abbrev pub pieceKind : SheetView → Piece → Option ℕ
 pieceKind v p = mapped (λ t. kindFrom (p .offset) (t .kind)) (around v p)
+
+abbrev pub kindIs : ℕ → Option ℕ → Bool
+kindIs k None = false
+kindIs k (Some j) = eqb j k
+
+-- a piece that is a Newline
+abbrev pub isNewlinePiece : SheetView → Piece → Bool
+isNewlinePiece v p = kindIs newline (pieceKind v p)

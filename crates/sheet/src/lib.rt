@@ -11,7 +11,9 @@ pub mod refusal;
 
 pub use page::Sheet;
 pub use records::Piece;
+pub use records::Place;
 pub use records::Position;
+pub use records::Seen;
 pub use records::Token;
 pub use refusal::SheetRefusal;
 

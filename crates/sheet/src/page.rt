@@ -9,6 +9,7 @@ ghost use Rattle.sheet.specs.Sound.{allSound};
 
 pub mod calls;
 mod check;
+pub mod see;
 
 use crate::records::Token;
 

@@ -37,3 +37,18 @@ impl Position {
         separated: false,
     };
 }
+
+/// A token number and an offset into that token.
+#[derive(Clone, Copy)]
+pub struct Place {
+    pub token: usize,
+    pub offset: usize,
+}
+
+/// What stands at a place: a token, or what is left of one. What is left behind dropped bytes is a Word.
+#[derive(Clone, Copy)]
+pub struct Seen<'a> {
+    pub kind: u8,
+    pub replaced: bool,
+    pub bytes: &'a [u8],
+}

@@ -1,4 +1,6 @@
 // The account of a table.
+use crate::cells::Page;
+use crate::cells::print_cells;
 use crate::words;
 use document::Columns;
 use document::Options;
@@ -92,7 +94,7 @@ fn print_options(rt: &LibcRuntime, options: Options) -> io::Result<()> {
 }
 
 /// Prints what a table's content is made of; false where it makes no sheet.
-fn print_content(rt: &LibcRuntime, text: &[u8], table: &Table) -> io::Result<bool> {
+fn print_content<'a>(rt: &LibcRuntime, text: &'a [u8], table: &'a Table) -> io::Result<bool> {
     let Some(content) = text.get(table.start..table.end) else {
         return Ok(false);
     };
@@ -109,21 +111,23 @@ fn print_content(rt: &LibcRuntime, text: &[u8], table: &Table) -> io::Result<boo
         Err(LexRefusal::NoMemory) => return Err(io::Error::from(io::ErrorKind::OutOfMemory)),
     };
     print_tokens(rt, tokens.as_slice())?;
-    match refusal_of(content, tokens.as_slice()) {
-        None => {
-            rt.println("  sheet      sound")?;
-            Ok(true)
-        }
-        Some(refusal) => print_refusal_at(rt, text, table, tokens.as_slice(), refusal),
-    }
+    print_sheet(rt, Page { text, table }, content, tokens.as_slice())
 }
 
-/// Why a content and its tokens make no sheet, if they make none.
-fn refusal_of<'a>(content: &'a [u8], tokens: &'a [Token]) -> Option<SheetRefusal> {
+/// Makes the sheet of a content and its tokens, and prints its cells, or why there is none.
+fn print_sheet<'a>(
+    rt: &LibcRuntime,
+    page: Page<'_>,
+    content: &'a [u8],
+    tokens: &'a [Token],
+) -> io::Result<bool> {
     let mut sheet = Sheet::empty();
     match sheet.load(content, &content[0..0], tokens) {
-        Ok(_) => None,
-        Err(refusal) => Some(refusal),
+        Ok(_) => {
+            rt.println("  sheet      sound")?;
+            print_cells(rt, page, &sheet)
+        }
+        Err(refusal) => print_refusal_at(rt, page.text, page.table, tokens, refusal),
     }
 }
 

@@ -1,6 +1,6 @@
-// Prints an account of the tables of an AsciiDoc document: where each stands, how it is written, and whether it makes a
-// sheet.
+// Prints an account of the tables of an AsciiDoc document: where each stands, how it is written, and its cells.
 mod account;
+mod cells;
 mod command;
 mod words;
 

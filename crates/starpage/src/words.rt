@@ -2,6 +2,10 @@
 use document::Format;
 use sheet::SheetRefusal;
 use sheet::kind;
+use starts::Horizontal;
+use starts::Specifier;
+use starts::Vertical;
+use std::io;
 
 pub const HELP: &str = "starpage: an account of the tables of an AsciiDoc document
 
@@ -9,8 +13,9 @@ usage: starpage [FILE]
 
 Reads FILE, or standard input where there is none (or where FILE is -), finds
 its table blocks and prints of each where it stands, its format, separator,
-columns and options, how many bytes and tokens it has, and whether its tokens
-make a sheet or why not.
+columns and options, how many bytes and tokens it has, whether its tokens make
+a sheet or why not, and its cells in page order: each with its number, its
+specifier, its text, its marks and what an editor should know of it.
 
   -h, --help    print this and end
 
@@ -87,5 +92,77 @@ pub fn refusal_words(refusal: SheetRefusal) -> &'static str {
         SheetRefusal::TextTooLong => "the table has more than 1,048,576 bytes",
         SheetRefusal::TooManyTokens => "the table has more than 262,144 tokens",
         SheetRefusal::UnsoundToken { token: _ } => "a token is not what its kind says",
+    }
+}
+
+pub fn note_words(number: u8) -> &'static str {
+    match number {
+        1 => "no cell starts here; the text is a cell with nothing written",
+        3 => "a double quote outside quotes, dropped",
+        4 => "the field that this quote opens is never closed",
+        _ => "see the list of notes",
+    }
+}
+
+/// Prints what a specifier says, as it is written in front of a cell, and a blank behind it.
+pub fn print_specifier(rt: &LibcRuntime, specifier: Specifier) -> io::Result<()> {
+    let factor = specifier.factor;
+    let columns = specifier.columns;
+    let rows = specifier.rows;
+    if factor != 1 {
+        print!(rt, "{factor}*")?;
+    }
+    if columns != 1 {
+        print!(rt, "{columns}")?;
+    }
+    if rows != 1 {
+        print!(rt, ".{rows}")?;
+    }
+    rt.print(if columns != 1 || rows != 1 { "+" } else { "" })?;
+    rt.print(horizontal_mark(specifier.horizontal))?;
+    rt.print(vertical_mark(specifier.vertical))?;
+    rt.print(style_letter(specifier.style))?;
+    rt.print(if is_written(specifier) { " " } else { "" })
+}
+
+fn is_written(specifier: Specifier) -> bool {
+    specifier.factor != 1
+        || specifier.columns != 1
+        || specifier.rows != 1
+        || specifier.horizontal.is_some()
+        || specifier.vertical.is_some()
+        || specifier.style.is_some()
+}
+
+fn horizontal_mark(alignment: Option<Horizontal>) -> &'static str {
+    match alignment {
+        Some(Horizontal::Left) => "<",
+        Some(Horizontal::Right) => ">",
+        Some(Horizontal::Center) => "^",
+        None => "",
+    }
+}
+
+fn vertical_mark(alignment: Option<Vertical>) -> &'static str {
+    match alignment {
+        Some(Vertical::Top) => ".<",
+        Some(Vertical::Bottom) => ".>",
+        Some(Vertical::Middle) => ".^",
+        None => "",
+    }
+}
+
+fn style_letter(style: Option<u8>) -> &'static str {
+    let Some(number) = style else {
+        return "";
+    };
+    match number {
+        document::EMPHASIS => "e",
+        document::HEADER => "h",
+        document::MONOSPACE => "m",
+        document::STRONG => "s",
+        document::LITERAL => "l",
+        document::ASCIIDOC => "a",
+        _ => "d",
     }
 }

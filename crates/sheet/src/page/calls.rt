@@ -8,7 +8,7 @@ ghost use Rattle.std.specs.declared.option.Option.the-variants.{Some, None};
 ghost use Rattle.std.specs.declared.result.Result.the-variants.{Ok, Err};
 ghost use Rattle.sheet.specs.Refusals.{told, refusalOf};
 ghost use Rattle.sheet.specs.Sound.{textOf};
-ghost use Rattle.sheet.specs.View.{view, around, partOf, kindFrom, pieceBytes, pieceKind};
+ghost use Rattle.sheet.specs.View.{view, around, partOf, kindFrom, pieceBytes, pieceKind, isNewlinePiece};
 use super::Sheet;
 use super::check::first_unsound;
 use super::check::text_of;
@@ -31,7 +31,7 @@ fn part<'a>(page: &'a [u8], replacement: &'a [u8], token: Token, piece: Piece) -
 }
 
 /// The kind of what a token has from an offset on.
-fn kind_from(offset: u32, kind: u8) -> u8
+pub fn kind_from(offset: usize, kind: u8) -> u8
     ensures { λ r. ⌜ r ≡ kindFrom offset kind ⌝ }
 {
     if offset == 0 { kind } else { kind::WORD }
@@ -140,6 +140,16 @@ impl<'a> Sheet<'a> {
         let Some(token) = self.around(piece) else {
             return None;
         };
-        Some(kind_from(piece.offset, token.kind))
+        Some(kind_from(piece.offset as usize, token.kind))
+    }
+
+    /// Whether a piece is a Newline.
+    pub fn is_newline(&self, piece: Piece) -> bool
+        ensures { λ r. ⌜ r ≡ isNewlinePiece (view (now (self .entry))) piece ⌝ }
+    {
+        match self.kind(piece) {
+            Some(kind) => kind == kind::NEWLINE,
+            None => false,
+        }
     }
 }

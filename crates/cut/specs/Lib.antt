@@ -1,0 +1,15 @@
+pub mod Blanks
+pub mod Separators
+pub mod Field
+pub mod BlankLine
+pub mod Within
+pub mod Moves
+pub mod Scanned
+pub mod Raw
+pub mod Insides
+pub mod Fields
+pub mod Dsv
+pub mod Csv
+pub mod Prefix
+pub mod Answer
+pub mod Pages

@@ -1,0 +1,3 @@
+// Tests of `starts` on texts, cut into tokens by `lexer`.
+#[cfg(test)]
+mod tests;
