@@ -1,4 +1,6 @@
 // Raw cells: a page's tokens cut into cells.
+#![tactic(auto)]
+
 mod blank_line;
 mod blanks;
 pub mod csv;

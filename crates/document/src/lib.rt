@@ -9,6 +9,8 @@
 // Where it differs from what AsciiDoc processors do: no block but those above is looked into, so a table inside an
 // example or a sidebar is found as any other; a comment block between attributes and a table makes the attributes void;
 // a separator of more than one byte is ignored, `\t` aside.
+#![tactic(auto)]
+
 mod attributes;
 mod blocks;
 mod bytes;

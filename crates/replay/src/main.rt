@@ -1,4 +1,6 @@
 // Replays cases: reads one case a line from standard input, cuts each page into cells and prints what was cut.
+#![tactic(auto)]
+
 mod answer;
 mod case;
 mod cells;

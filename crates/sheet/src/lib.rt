@@ -3,6 +3,8 @@
 // A sheet is a page, a replacement text and a list of tokens, all lent. `Sheet::load` looks at every token once and
 // refuses what is not sound; there is no other way to have one, so whoever holds a sheet knows that each of its
 // tokens lies inside its text and is what its kind says. Nothing here allocates, and nothing is copied.
+#![tactic(auto)]
+
 pub mod kind;
 pub mod limits;
 pub mod page;

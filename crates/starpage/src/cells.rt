@@ -123,7 +123,7 @@ fn print_cell(
 
 /// Prints bytes as text, a line feed as `\n` and what is no text as `\x` and two digits.
 fn print_bytes(rt: &HostRuntime, bytes: &[u8]) -> io::Result<()> {
-    if bytes == b"\n" {
+    if bytes == b"\n".as_slice() {
         return rt.print("\\n");
     }
     if let Ok(text) = std::str::from_utf8(bytes) {

@@ -1,4 +1,6 @@
 // Prints an account of the tables of an AsciiDoc document: where each stands, how it is written, and its cells.
+#![tactic(auto)]
+
 mod account;
 mod cells;
 mod command;
@@ -8,6 +10,7 @@ use command::Command;
 use document::Outline;
 use std::alloc::Global;
 use std::io::Read;
+use std::process::ExitCode;
 use std::{fs, io};
 
 /// Why the program ends with status 1. The message has been printed.
@@ -94,6 +97,9 @@ fn run(rt: &HostRuntime) -> Result<(), Stopped> {
     }
 }
 
-fn main(rt: HostRuntime) -> Result<(), Stopped> {
-    run(&rt)
+fn main(rt: HostRuntime) -> ExitCode {
+    match run(&rt) {
+        Ok(()) => ExitCode::SUCCESS,
+        Err(_) => ExitCode::FAILURE,
+    }
 }

@@ -52,9 +52,9 @@ impl<'a> Sheet<'a> {
         tokens: &'a [Token],
     ) -> Result<(), SheetRefusal>
         ensures { elim result [
-          | Ok _ ↦ (refusal_of page.entry.now replacement.now tokens.now ≡ None)
-              × (view self.new ≡ record { page = page.entry.now; replacement = replacement.now; tokens = tokens.now })
-          | Err e ↦ (refusal_of page.entry.now replacement.now tokens.now ≡ Some (told e))
+          | Ok _ ↦ (refusal_of page.now replacement.now tokens.now ≡ None)
+              × (view self.new ≡ record { page = page.now; replacement = replacement.now; tokens = tokens.now })
+          | Err e ↦ (refusal_of page.now replacement.now tokens.now ≡ Some (told e))
               × (view self.new ≡ view self.old)
         ] }
     {

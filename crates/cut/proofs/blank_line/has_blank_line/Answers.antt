@@ -12,7 +12,7 @@ returns-then-pieces-lt2 c = sym (few_pieces (view c.args.sheet.now) c.args.piece
 
 pub pairs-preserved : goal.pairs-preserved
 pairs-preserved c =
-    sym (pair_at (view c.args.sheet.now) c.args.pieces.now c.pairs.i no_piece (omega arith) c.loop-k.k c.loop-k-test.true (sym c.if-not-is-newline.ensures)) ∙ c.pairs.invariant
+    sym (pair_at (view c.args.sheet.now) c.args.pieces.now c.pairs.i no_piece (omega arith) c.loop-k.k c.loop-k-test.true (sym c.if-not-is_newline.ensures)) ∙ c.pairs.invariant
 
 pub returns-in-pairs : goal.returns-in-pairs
 returns-in-pairs c =

@@ -6,13 +6,13 @@ use Rattle.cut.specs.declared.types.Note.{Note}
 use Rattle.cut.proofs.Adds.{added_none, added_full, added_one}
 use Rattle.cut.proofs.fields.add_note.Goals as goal
 
-pub returns-in-default : goal.returns-in-default
-returns-in-default c =
+pub returns-in_default : goal.returns-in_default
+returns-in_default c =
     let s = c.args.notes.now in
-    subst (λ (o : Option Note). Added s s (take (room s - length (entries s)) (option_to_list o))) (sym c.in-default.is) (added_none _ s)
+    subst (λ (o : Option Note). Added s s (take (room s - length (entries s)) (option_to_list o))) (sym c.in_default.is) (added_none _ s)
 
-pub returns-in-default-push : goal.returns-in-default-push
-returns-in-default-push c = let p = c.in-default-push.ensures in added_full _ _ _ p.entries.0 p.entries.1 p.room
+pub returns-in_default-push : goal.returns-in_default-push
+returns-in_default-push c = let p = c.in_default-push.ensures in added_full _ _ _ p.entries.0 p.entries.1 p.room
 
 pub returns : goal.returns
 returns c =

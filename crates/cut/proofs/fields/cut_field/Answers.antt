@@ -20,8 +20,8 @@ use Rattle.cut.proofs.fields.cut_field.Goals as goal
 use Rattle.cut.proofs.fields.cut_field.Goals.{After-scan-found}
 
 -- what is left behind the skipped blanks
-skipped : (g : given.Over) (c : After-scan-found g) → left_at (view c.args.sheet.now) c.skip-blanks-skipped.result.place ≡ skip c.args.at.separated (left (view c.args.sheet.now) c.args.at.token c.args.at.offset)
-skipped g c = c.skip-blanks-skipped.ensures.left ∙ ap (skip c.args.at.separated) c.place-of-start.ensures.same
+skipped : (g : given.Over) (c : After-scan-found g) → left_at (view c.args.sheet.now) c.skip_blanks-skipped.result.place ≡ skip c.args.at.separated (left (view c.args.sheet.now) c.args.at.token c.args.at.offset)
+skipped g c = c.skip_blanks-skipped.ensures.left ∙ ap (skip c.args.at.separated) c.place_of-start.ensures.same
 
 -- how the field in front begins, the field, and its cell
 abbrev begun : (g : given.Over) (c : After-scan-found g) → Begin
@@ -33,23 +33,23 @@ fronted g c = field (g.F.Format.role c.args.format.now) (begun g c).state (begun
 abbrev cell : (g : given.Over) (c : After-scan-found g) → RawCell
 cell g c = (front_field (g.F.Format.role c.args.format.now) (g.F.Opens.begin c.args.format.now) (length (view c.args.sheet.now).tokens) c.args.at.separated (left (view c.args.sheet.now) c.args.at.token c.args.at.offset)).cell
 
-pub returns-then-no-field : goal.returns-then-no-field
-returns-then-no-field g c =
-    (no_fields (g.F.Format.role c.args.format.now) c.requires (g.F.Opens.begin c.args.format.now) (g.met.F.Opens.less c.args.format.now) (view c.args.sheet.now) c.args.at (sym (c.no-field.ensures ∙ ap (λ (x : List Left). none x && not c.args.at.separated) (c.skip-blanks-skipped.ensures.left ∙ ap (skip c.args.at.separated) c.place-of-start.ensures.same)) ∙ c.if-no-field.true), unchanged _, unchanged _)
+pub returns-then-no_field : goal.returns-then-no_field
+returns-then-no_field g c =
+    (no_fields (g.F.Format.role c.args.format.now) c.requires (g.F.Opens.begin c.args.format.now) (g.met.F.Opens.less c.args.format.now) (view c.args.sheet.now) c.args.at (sym (c.no_field.ensures ∙ ap (λ (x : List Left). none x && not c.args.at.separated) (c.skip_blanks-skipped.ensures.left ∙ ap (skip c.args.at.separated) c.place_of-start.ensures.same)) ∙ c.if-no_field.true), unchanged _, unchanged _)
 
-pub told-field-requires : goal.told-field-requires
-told-field-requires g c = (c.open-field-opening.ensures.few, (c.scan-found.ensures.few, c.scan-found.ensures.many))
+pub told_field-requires : goal.told_field-requires
+told_field-requires g c = (c.open_field-opening.ensures.few, (c.scan-found.ensures.few, c.scan-found.ensures.many))
 
 -- how the field begins, as the definition says it
-begins : (g : given.Over) (c : After-scan-found g) → g.F.Opens.begin c.args.format.now (left_at (view c.args.sheet.now) c.skip-blanks-skipped.result.place) ≡ begun g c
+begins : (g : given.Over) (c : After-scan-found g) → g.F.Opens.begin c.args.format.now (left_at (view c.args.sheet.now) c.skip_blanks-skipped.result.place) ≡ begun g c
 begins g c = ap (g.F.Opens.begin c.args.format.now) (skipped g c)
 
 -- the field that was scanned is the one in front
-field_is : (g : given.Over) (c : After-scan-found g) → field (g.F.Format.role c.args.format.now) c.open-field-opening.result.state (left_at (view c.args.sheet.now) c.open-field-opening.result.place) ≡ fronted g c
+field_is : (g : given.Over) (c : After-scan-found g) → field (g.F.Format.role c.args.format.now) c.open_field-opening.result.state (left_at (view c.args.sheet.now) c.open_field-opening.result.place) ≡ fronted g c
 field_is g c =
     let role = g.F.Format.role c.args.format.now in
-    let o = c.open-field-opening.ensures in
-    ap (λ (s : State). field role s (left_at (view c.args.sheet.now) c.open-field-opening.result.place)) o.state
+    let o = c.open_field-opening.ensures in
+    ap (λ (s : State). field role s (left_at (view c.args.sheet.now) c.open_field-opening.result.place)) o.state
     ∙ ap (field role _) o.left
     ∙ ap (λ (b : Begin). field role b.state b.left) (begins g c)
 
@@ -62,7 +62,7 @@ page : (g : given.Over) (c : After-scan-found g) → fields (g.F.Format.role c.a
 page g c =
     let s = found_is g c in
     more_fields (g.F.Format.role c.args.format.now) c.requires (g.F.Opens.begin c.args.format.now) (g.met.F.Opens.less c.args.format.now) (view c.args.sheet.now) c.args.at
-    (sym (c.no-field.ensures ∙ ap (λ (x : List Left). none x && not c.args.at.separated) (skipped g c)) ∙ c.if-no-field.false)
+    (sym (c.no_field.ensures ∙ ap (λ (x : List Left). none x && not c.args.at.separated) (skipped g c)) ∙ c.if-no_field.false)
     (position_of c.scan-found.result.rest (at_mark c.scan-found.result.close)) (ap at_mark s.close) s.rest
 
 pub returns-then-not-fill : goal.returns-then-not-fill
@@ -76,15 +76,15 @@ pub returns : goal.returns
 returns g c =
     let k = (goal.at.returns g c).After-scan-found in
     let v = view c.args.sheet.now in
-    let d = c.told-field.ensures in
+    let d = c.told_field.ensures in
     let f = c.if-not-fill.ensures in
     let written = ap (λ (x : Field). map piece_of (take c.scan-found.result.finished x.texts)) (field_is g k) ∙ pieces_are _ (fronted g k).texts (found_is g k).finished in
-    let q = c.open-field-opening.ensures.quote ∙ ap (λ (b : Begin). b.quote) (begins g k) in (
+    let q = c.open_field-opening.ensures.quote ∙ ap (λ (b : Begin). b.quote) (begins g k) in (
       cell g k,
       page g k ∙ ap (λ (p : Position). cell g k ∷ fields (g.F.Format.role c.args.format.now) (g.F.Opens.begin c.args.format.now) v p) (sym d.rest),
-      tells_at _ (fronted g k) _ _ _ _ _ _ c.place-of-start.ensures.first (c.skip-blanks-skipped.ensures.line ∙ ap (skips_newline c.args.at.separated) c.place-of-start.ensures.same) q
+      tells_at _ (fronted g k) _ _ _ _ _ _ c.place_of-start.ensures.first (c.skip_blanks-skipped.ensures.line ∙ ap (skips_newline c.args.at.separated) c.place_of-start.ensures.same) q
           (field_tells v _ _ _ c.scan-found.result _ (fronted g k) d (found_is g k)),
       record { entries = f.entries ∙ ap (λ (x : List Piece). entries c.args.pieces.now ++ x) written; room = f.room },
-      subst (λ (ns : List Note). Added c.args.notes.now c.write-notes.new.notes (take (room c.args.notes.now - length (entries c.args.notes.now)) ns))
-          (ap (λ (x : Field). notes_of c.open-field-opening.result.quote x) (field_is g k) ∙ ap (λ (x : Option ℕ). notes_of x (fronted g k)) q) c.write-notes.ensures,
+      subst (λ (ns : List Note). Added c.args.notes.now c.write_notes.new.notes (take (room c.args.notes.now - length (entries c.args.notes.now)) ns))
+          (ap (λ (x : Field). notes_of c.open_field-opening.result.quote x) (field_is g k) ∙ ap (λ (x : Option ℕ). notes_of x (fronted g k)) q) c.write_notes.ensures,
     )

@@ -11,10 +11,10 @@ use Rattle.cut.proofs.scan.fill.Goals as goal
 pub pieces-init : goal.pieces-init
 pieces-init g c = fills_start _ _ _ _
 
-pub returns-in-default : goal.returns-in-default
-returns-in-default g c =
+pub returns-in_default : goal.returns-in_default
+returns-in_default g c =
     let inv = c.pieces.invariant in
-    record { entries = fills_none _ _ _ _ _ _ _ _ refl (fills_at _ _ _ _ _ _ _ _ _ (ap (field (g.F.Format.role c.args.format.now) c.pieces.state) c.in-default.ensures) inv); room = inv.room }
+    record { entries = fills_none _ _ _ _ _ _ _ _ refl (fills_at _ _ _ _ _ _ _ _ _ (ap (field (g.F.Format.role c.args.format.now) c.pieces.state) c.in_default.ensures) inv); room = inv.room }
 
 pub returns-in-EndsLine : goal.returns-in-EndsLine
 returns-in-EndsLine g c =
@@ -33,7 +33,7 @@ returns-in-Splits g c =
     let t = seen_at c.pieces.place c.in-Some.seen in
     let n = c.in-Splits.size in
     let f = fills_at _ _ _ _ _ _ _ _ _ (field_at (g.F.Format.role c.args.format.now) c.pieces.state _ _ _ (Splits n c.in-Splits.field-1) c.in-Some.ensures.0 c.in-Splits.ensures.value) c.pieces.invariant in
-    let p : c.piece-at.result ≡ piece_of (front_of n t) = c.piece-at.ensures ∙ ap (piece_from c.pieces.place) (sym (length-take-le n t.bytes c.in-Splits.ensures.within.0)) in
+    let p : c.piece_at.result ≡ piece_of (front_of n t) = c.piece_at.ensures ∙ ap (piece_from c.pieces.place) (sym (length-take-le n t.bytes c.in-Splits.ensures.within.0)) in
     let m = fills_more _ _ _ _ _ _ _ false (front_of n t) _ _ _ _ c.pieces-test.true p c.in-Ok.ensures.entries.1 c.in-Ok.ensures.room f in
     record { entries = fills_none _ _ _ _ _ _ _ _ refl m; room = m.room }
 
@@ -41,4 +41,4 @@ pub pieces-preserved : goal.pieces-preserved
 pieces-preserved g c =
     let t = seen_at c.pieces.place c.in-Some.seen in
     let f = fills_at _ _ _ _ _ _ _ _ _ (field_at (g.F.Format.role c.args.format.now) c.pieces.state _ _ _ (Takes c.in-Takes.next c.in-Takes.field-1) c.in-Some.ensures.0 c.in-Takes.ensures.value) c.pieces.invariant in
-    fills_more _ _ _ _ _ _ _ _ t _ _ _ _ c.pieces-test.true c.piece-at-in-Takes.ensures c.in-Ok-push.ensures.entries.1 c.in-Ok-push.ensures.room f
+    fills_more _ _ _ _ _ _ _ _ t _ _ _ _ c.pieces-test.true c.piece_at-in-Takes.ensures c.in-Ok-push.ensures.entries.1 c.in-Ok-push.ensures.room f

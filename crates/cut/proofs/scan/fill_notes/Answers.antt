@@ -6,9 +6,9 @@ use Rattle.cut.specs.Scans.{field_at}
 use Rattle.cut.proofs.NoteLists.{notes_at, notes_done, notes_full, notes_more, notes_closed}
 use Rattle.cut.proofs.scan.fill_notes.Goals as goal
 
-pub returns-in-default : goal.returns-in-default
-returns-in-default g c =
-    record { entries = notes_done _ _ _ _ _ _ _ refl (notes_at _ _ _ _ _ _ _ _ (ap (field (g.F.Format.role c.args.format.now) c.notes.state) c.in-default.ensures) c.notes.invariant); room = c.notes.invariant.room }
+pub returns-in_default : goal.returns-in_default
+returns-in_default g c =
+    record { entries = notes_done _ _ _ _ _ _ _ refl (notes_at _ _ _ _ _ _ _ _ (ap (field (g.F.Format.role c.args.format.now) c.notes.state) c.in_default.ensures) c.notes.invariant); room = c.notes.invariant.room }
 
 pub returns-in-EndsLine : goal.returns-in-EndsLine
 returns-in-EndsLine g c =
@@ -26,9 +26,9 @@ pub returns-in-Splits : goal.returns-in-Splits
 returns-in-Splits g c =
     record { entries = notes_closed (g.F.Format.role c.args.format.now) c.notes.state _ _ _ (Splits c.in-Splits.field-0 c.in-Splits.field-1) _ _ _ _ _ _ c.in-Some.ensures.0 c.in-Splits.ensures.value refl c.notes.invariant; room = c.notes.invariant.room }
 
-pub returns-in-default-push : goal.returns-in-default-push
-returns-in-default-push g c =
-    let p = c.in-default-push.ensures in
+pub returns-in_default-push : goal.returns-in_default-push
+returns-in_default-push g c =
+    let p = c.in_default-push.ensures in
     record { entries = p.entries.1 ∙ notes_full _ _ _ _ _ _ _ p.entries.0 c.notes.invariant; room = p.room ∙ c.notes.invariant.room }
 
 pub notes-preserved : goal.notes-preserved

@@ -5,11 +5,11 @@ use Rattle.document.specs.Attributes.{item_size, ends_item}
 use Rattle.document.specs.declared.attributes.Spot.{Spot}
 use Rattle.document.proofs.attributes.item_size.Goals as goal
 
-pub returns-then-ends-item : goal.returns-then-ends-item
-returns-then-ends-item c =
+pub returns-then-ends_item : goal.returns-then-ends_item
+returns-then-ends_item c =
     let e : item_size c.loop-i.spot (drop c.loop-i.i c.args.list.now) ≡ 0 =
     at_drop_more (item_size c.loop-i.spot) c.args.list.now c.loop-i.i 0 c.loop-i-test.true
-    ∙ cond-true (ends_item c.loop-i.spot (get_or c.args.list.now c.loop-i.i 0)) _ _ (sym c.if-ends-item.ensures) in
+    ∙ cond-true (ends_item c.loop-i.spot (get_or c.args.list.now c.loop-i.i 0)) _ _ (sym c.if-ends_item.ensures) in
     record { value = omega (arith, e, c.loop-i.invariant); within = omega arith }
 
 pub loop-i-preserved : goal.loop-i-preserved
@@ -17,7 +17,7 @@ loop-i-preserved c =
     let rest = drop (c.loop-i.i + 1) c.args.list.now in
     let e : item_size c.loop-i.spot (drop c.loop-i.i c.args.list.now) ≡ 1 + item_size c.after-spot.result rest =
     at_drop_more (item_size c.loop-i.spot) c.args.list.now c.loop-i.i 0 c.loop-i-test.true
-    ∙ cond-false (ends_item c.loop-i.spot (get_or c.args.list.now c.loop-i.i 0)) _ _ (sym c.if-ends-item.ensures)
+    ∙ cond-false (ends_item c.loop-i.spot (get_or c.args.list.now c.loop-i.i 0)) _ _ (sym c.if-ends_item.ensures)
     ∙ ap (λ (s : Spot). 1 + item_size s rest) (sym c.after-spot.ensures) in
     omega (arith, e, c.loop-i.invariant)
 

@@ -29,7 +29,7 @@ loop-position-preserved c =
     let e = c.in-Found.ensures in
     let t = c.in-Found.table in
     let more : vec_items c.push.new.self ≡ vec_items c.loop-position.tables ++ t ∷ [] =
-    pushed (t ∷ []) refl c.in-ok-push.was c.push.ensures.items in (
+    pushed (t ∷ []) refl c.in_ok-push-in-Found.was c.push.ensures.items in (
       e.goes.1,
       found_at text c.loop-position.position c.in-Found.next t _ _ more inv.1 inside e.steps,
       subst (λ (l : List table.Table). All (Framed text) l) (sym more)

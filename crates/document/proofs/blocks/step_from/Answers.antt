@@ -19,22 +19,22 @@ of_kind : (text : List ℕ) (p q : Position) (k : LineKind) → k ≡ kind_of (l
     → Onward text p q (kind_of (line_at text p.at))
 of_kind text p q k e h = subst (λ (l : LineKind). Onward text p q l) e h
 
-pub behind-verbatim-requires : goal.behind-verbatim-requires
-behind-verbatim-requires c =
-    below c.args.text.now c.args.position c.line-at-line.result.next c.requires.inside c.requires.stands c.line-at-line.ensures.next
+pub behind_verbatim-requires : goal.behind_verbatim-requires
+behind_verbatim-requires c =
+    below c.args.text.now c.args.position c.line_at-line.result.next c.requires.inside c.requires.stands c.line_at-line.ensures.next
 
 pub returns-in-Verbatim : goal.returns-in-Verbatim
 returns-in-Verbatim c =
     let p = c.args.position in
     let text = c.args.text.now in
-    let q = c.behind-verbatim.result in
+    let q = c.behind_verbatim.result in
     record {
       steps =
-          of_kind text p q Verbatim (c.in-Verbatim.ensures ∙ ap kind_of c.line-at-line.ensures.bytes)
-          (subst (λ (n : ℕ). Passes text (line_at text p.at) n (p.before + 1) q) c.line-at-line.ensures.next
-          (subst (λ (l : List ℕ). Passes text l c.line-at-line.result.next (p.before + 1) q) c.line-at-line.ensures.bytes
-          c.behind-verbatim.ensures.passes));
-      goes = (omega (arith, c.line-at-line.ensures.forward c.requires.inside, c.behind-verbatim.ensures.further), c.behind-verbatim.ensures.stands);
+          of_kind text p q Verbatim (c.in-Verbatim.ensures ∙ ap kind_of c.line_at-line.ensures.bytes)
+          (subst (λ (n : ℕ). Passes text (line_at text p.at) n (p.before + 1) q) c.line_at-line.ensures.next
+          (subst (λ (l : List ℕ). Passes text l c.line_at-line.result.next (p.before + 1) q) c.line_at-line.ensures.bytes
+          c.behind_verbatim.ensures.passes));
+      goes = (omega (arith, c.line_at-line.ensures.forward c.requires.inside, c.behind_verbatim.ensures.further), c.behind_verbatim.ensures.stands);
     }
 
 pub returns-in-Attributes : goal.returns-in-Attributes
@@ -43,11 +43,11 @@ returns-in-Attributes c =
     let text = c.args.text.now in
     record {
       steps =
-          of_kind text p _ Attributes (c.in-Attributes.ensures ∙ ap kind_of c.line-at-line.ensures.bytes)
-          ((c.line-at-line.ensures.next, refl), c.with-line.ensures ∙ ap (with_line (said c.args.position.attributes)) c.line-at-line.ensures.bytes);
+          of_kind text p _ Attributes (c.in-Attributes.ensures ∙ ap kind_of c.line_at-line.ensures.bytes)
+          ((c.line_at-line.ensures.next, refl), c.with_line.ensures ∙ ap (with_line (said c.args.position.attributes)) c.line_at-line.ensures.bytes);
       goes = (
-        c.line-at-line.ensures.forward c.requires.inside,
-        below text p c.line-at-line.result.next c.requires.inside c.requires.stands c.line-at-line.ensures.next,
+        c.line_at-line.ensures.forward c.requires.inside,
+        below text p c.line_at-line.result.next c.requires.inside c.requires.stands c.line_at-line.ensures.next,
       );
     }
 
@@ -57,11 +57,11 @@ returns-in-Aside c =
     let text = c.args.text.now in
     record {
       steps =
-          of_kind text p _ Aside (c.in-Aside.ensures ∙ ap kind_of c.line-at-line.ensures.bytes)
-          ((c.line-at-line.ensures.next, refl), refl);
+          of_kind text p _ Aside (c.in-Aside.ensures ∙ ap kind_of c.line_at-line.ensures.bytes)
+          ((c.line_at-line.ensures.next, refl), refl);
       goes = (
-        c.line-at-line.ensures.forward c.requires.inside,
-        below text p c.line-at-line.result.next c.requires.inside c.requires.stands c.line-at-line.ensures.next,
+        c.line_at-line.ensures.forward c.requires.inside,
+        below text p c.line_at-line.result.next c.requires.inside c.requires.stands c.line_at-line.ensures.next,
       );
     }
 
@@ -71,10 +71,10 @@ returns-in-Text c =
     let text = c.args.text.now in
     record {
       steps =
-          of_kind text p _ Text (c.in-Text.ensures ∙ ap kind_of c.line-at-line.ensures.bytes)
-          ((c.line-at-line.ensures.next, refl), refl);
+          of_kind text p _ Text (c.in-Text.ensures ∙ ap kind_of c.line_at-line.ensures.bytes)
+          ((c.line_at-line.ensures.next, refl), refl);
       goes = (
-        c.line-at-line.ensures.forward c.requires.inside,
-        below text p c.line-at-line.result.next c.requires.inside c.requires.stands c.line-at-line.ensures.next,
+        c.line_at-line.ensures.forward c.requires.inside,
+        below text p c.line_at-line.result.next c.requires.inside c.requires.stands c.line_at-line.ensures.next,
       );
     }

@@ -4,8 +4,8 @@ use Rattle.document.specs.Blocks.{Stands, Closes, table_of, mark_of}
 use Rattle.document.proofs.Feeds.{stands_next, next_further}
 use Rattle.document.proofs.blocks.table_step.Goals as goal
 
-pub find-closing-requires : goal.find-closing-requires
-find-closing-requires c =
+pub find_closing-requires : goal.find_closing-requires
+find_closing-requires c =
     let p = c.args.position in
     subst (λ (n : ℕ). Stands c.args.text.now n (p.before + 1)) (sym c.requires.next)
     (stands_next c.args.text.now p.at c.requires.inside p.before c.requires.stands)
@@ -16,7 +16,7 @@ returns c =
     let text = c.args.text.now in
     let close = c.in-Some.close in
     let closes = c.in-Some.ensures in
-    let mark : c.mark-of.result ≡ mark_of (line_at text p.at) = c.mark-of.ensures ∙ ap mark_of c.requires.opening in
+    let mark : c.mark_of.result ≡ mark_of (line_at text p.at) = c.mark_of.ensures ∙ ap mark_of c.requires.opening in
     record {
       steps = record {
         close = close;
@@ -25,7 +25,7 @@ returns c =
             subst (λ (n : ℕ). Closes text (line_at text p.at) n (p.before + 1) close) c.requires.next
             (subst (λ (l : List ℕ). Closes text l c.args.next (p.before + 1) close) c.requires.opening closes);
         is =
-            c.table-of-table.ensures
+            c.table_of-table.ensures
             ∙ ap (λ (m : ℕ). table_of text p m c.args.next close) mark
             ∙ ap (λ (n : ℕ). table_of text p (mark_of (line_at text p.at)) n close) c.requires.next;
         behind = record { at = refl; before = refl; clear = refl };

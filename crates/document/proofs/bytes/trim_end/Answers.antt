@@ -4,7 +4,7 @@ use Rattle.std.proofs.lemmas.List.{take_all, length-take}
 use Rattle.std.proofs.lemmas.List.Sums.{suffix_len-take_yes, suffix_len-take_no, suffix_len-le-length}
 use Rattle.document.specs.Bytes.{is_blank}
 use Rattle.document.proofs.bytes.trim_end.Goals as goal
-use Rattle.document.proofs.bytes.trim_end.Goals.{then-loop-end-test+else-is-blank, else-loop-end-test}
+use Rattle.document.proofs.bytes.trim_end.Goals.{then-loop-end-test+else-is_blank, else-loop-end-test}
 
 pub loop-end-init : goal.loop-end-init
 loop-end-init c =
@@ -13,15 +13,15 @@ loop-end-init c =
 
 pub loop-end-preserved : goal.loop-end-preserved
 loop-end-preserved c =
-    let e = suffix_len-take_yes is_blank c.args.bytes.now c.loop-end.end 0 c.loop-end-test.true c.loop-end.invariant.1 (sym c.if-is-blank.ensures) in
+    let e = suffix_len-take_yes is_blank c.args.bytes.now c.loop-end.end 0 c.loop-end-test.true c.loop-end.invariant.1 (sym c.if-is_blank.ensures) in
     (omega (arith, e, c.loop-end.invariant.0), omega arith)
 
 pub returns : goal.returns
 returns c =
     let none : suffix_len is_blank (take c.loop-end.end c.args.bytes.now) ≡ 0 =
     elim c.loop-end-test.branch [
-      | then-loop-end-test+else-is-blank w ↦
-          suffix_len-take_no is_blank c.args.bytes.now c.loop-end.end 0 w.loop-end-test.true c.loop-end.invariant.1 (sym w.if-is-blank.ensures)
+      | then-loop-end-test+else-is_blank w ↦
+          suffix_len-take_no is_blank c.args.bytes.now c.loop-end.end 0 w.loop-end-test.true c.loop-end.invariant.1 (sym w.if-is_blank.ensures)
       | else-loop-end-test w ↦
           omega (arith, suffix_len-le-length is_blank (take c.loop-end.end c.args.bytes.now), length-take c.loop-end.end c.args.bytes.now)
     ] in

@@ -14,12 +14,12 @@ entry_is front entry times style e t s =
 pub returns-then-more-eq0 : goal.returns-then-more-eq0
 returns-then-more-eq0 c =
     let rest = c.loop-more.rest.now in
-    let front = c.split-at.ensures.front ∙ ap (λ (n : ℕ). take n rest) c.find.ensures.value in
-    let more = c.split-at.ensures.back ∙ ap (λ (n : ℕ). drop n rest) c.find.ensures.value in
-    let entry = entry_is c.split-at.result.0.now _ _ _ c.trim-entry.ensures c.times-of.ensures c.style-of.ensures in
-    let all : styles_between c.args.mark rest ≡ replicate c.times-of.result c.style-of.result =
+    let front = c.split_at.ensures.front ∙ ap (λ (n : ℕ). take n rest) c.find.ensures.value in
+    let more = c.split_at.ensures.back ∙ ap (λ (n : ℕ). drop n rest) c.find.ensures.value in
+    let entry = entry_is c.split_at.result.0.now _ _ _ c.trim-entry.ensures c.times_of.ensures c.style_of.ensures in
+    let all : styles_between c.args.mark rest ≡ replicate c.times_of.result c.style_of.result =
     styles_last c.args.mark rest _ _ front more c.if-more-eq0.true ∙ sym entry in
-    let size : length (styles_between c.args.mark rest) ≡ c.times-of.result = ap length all ∙ length-replicate _ _ in
+    let size : length (styles_between c.args.mark rest) ≡ c.times_of.result = ap length all ∙ length-replicate _ _ in
     record {
       count = omega (arith, size, c.with-columns.ensures.count, c.loop-more.invariant.0);
       styles = c.with-columns.ensures.styles ∙ ap (λ (l : List ℕ). take 64 (kept_of c.loop-more.columns ++ l)) (sym all) ∙ c.loop-more.invariant.1;
@@ -28,17 +28,17 @@ returns-then-more-eq0 c =
 pub loop-more-preserved : goal.loop-more-preserved
 loop-more-preserved c =
     let rest = c.loop-more.rest.now in
-    let behind = c.split-at-in-loop-more.result.1.now in
-    let styles = replicate c.times-of.result c.style-of.result in
-    let front = c.split-at.ensures.front ∙ ap (λ (n : ℕ). take n rest) c.find.ensures.value in
-    let more = c.split-at.ensures.back ∙ ap (λ (n : ℕ). drop n rest) c.find.ensures.value in
-    let entry = entry_is c.split-at.result.0.now _ _ _ c.trim-entry.ensures c.times-of.ensures c.style-of.ensures in
-    let some : 0 < length c.split-at.result.1.now = omega arith in
+    let behind = c.split_at-in-loop-more.result.1.now in
+    let styles = replicate c.times_of.result c.style_of.result in
+    let front = c.split_at.ensures.front ∙ ap (λ (n : ℕ). take n rest) c.find.ensures.value in
+    let more = c.split_at.ensures.back ∙ ap (λ (n : ℕ). drop n rest) c.find.ensures.value in
+    let entry = entry_is c.split_at.result.0.now _ _ _ c.trim-entry.ensures c.times_of.ensures c.style_of.ensures in
+    let some : 0 < length c.split_at.result.1.now = omega arith in
     let all : styles_between c.args.mark rest ≡ styles ++ styles_between c.args.mark behind =
     styles_more c.args.mark rest _ _ front more some
-    ∙ ap (λ (l : List ℕ). l ++ styles_between c.args.mark (drop 1 c.split-at.result.1.now)) (sym entry)
-    ∙ ap (λ (l : List ℕ). styles ++ styles_between c.args.mark l) (sym c.split-at-in-loop-more.ensures.back) in
-    let size : length (styles_between c.args.mark rest) ≡ c.times-of.result + length (styles_between c.args.mark behind) =
+    ∙ ap (λ (l : List ℕ). l ++ styles_between c.args.mark (drop 1 c.split_at.result.1.now)) (sym entry)
+    ∙ ap (λ (l : List ℕ). styles ++ styles_between c.args.mark l) (sym c.split_at-in-loop-more.ensures.back) in
+    let size : length (styles_between c.args.mark rest) ≡ c.times_of.result + length (styles_between c.args.mark behind) =
     ap length all ∙ length-append styles _ ∙ ap (λ (n : ℕ). n + length (styles_between c.args.mark behind)) (length-replicate _ _) in (
       omega (arith, size, c.with-columns.ensures.count, c.loop-more.invariant.0),
       kept_step (kept_of c.loop-more.columns) _ styles _ _ c.with-columns.ensures.styles

@@ -9,28 +9,28 @@ use Rattle.document.proofs.lines.place_of.Goals.{then-byte-eq10, else-byte-eq10}
 
 pub loop-byte-preserved : goal.loop-byte-preserved
 loop-byte-preserved c =
-    let head = c.split-at.result.0.now in
+    let head = c.split_at.result.0.now in
     let inside = c.loop-byte-test.true in
     elim c.if-byte-eq10.branch [
       | then-byte-eq10 w ↦
           let yes' = eq-eqb _ _ w.if-byte-eq10.true in
           let e = count_by_more_yes (λ x. eqb x 10) head c.loop-byte.byte-index 0 inside yes' in
           let f = ending_more_no (λ x. not (eqb x 10)) head c.loop-byte.byte-index inside (not_from_true _ yes') in
-          (omega (arith, e, w.line-is, c.loop-byte.invariant), omega (arith, f, w.column_is), omega (arith, w.line-is), omega (arith, w.column_is))
+          (omega (arith, e, w.line-is, c.loop-byte.invariant), omega (arith, f, w.column-is), omega (arith, w.line-is), omega (arith, w.column-is))
       | else-byte-eq10 w ↦
           let no' = ne_eqb _ _ w.if-byte-eq10.false in
           let e = count_by_more_no (λ x. eqb x 10) head c.loop-byte.byte-index 0 inside no' in
           let f = ending_more_yes (λ x. not (eqb x 10)) head c.loop-byte.byte-index inside (not_from_false _ no') in
-          (omega (arith, e, w.line-is, c.loop-byte.invariant), omega (arith, f, w.column_is, c.loop-byte.invariant), omega (arith, w.line-is), omega (arith, w.column_is))
+          (omega (arith, e, w.line-is, c.loop-byte.invariant), omega (arith, f, w.column-is, c.loop-byte.invariant), omega (arith, w.line-is), omega (arith, w.column-is))
     ]
 
 pub returns : goal.returns
 returns c =
     let text = c.args.text.now in
-    let head = c.split-at.result.0.now in
+    let head = c.split_at.result.0.now in
     let all : take c.loop-byte.byte-index head ≡ take c.args.offset text =
     take_all c.loop-byte.byte-index head c.loop-byte-test.false
-    ∙ c.split-at.ensures.front
+    ∙ c.split_at.ensures.front
     ∙ ap (λ (n : ℕ). take n text) c.min.ensures
     ∙ take_min c.args.offset (length text) text refl in
     record {

@@ -20,9 +20,9 @@ alone false = refl
 pub returns-then-more-eq0 : goal.returns-then-more-eq0
 returns-then-more-eq0 c =
     let rest = c.loop-more.rest.now in
-    let p = paragraph rest c.split-at.result.1.now _ c.find.ensures.value c.split-at.ensures.back in
-    let none = behind_none 10 c.split-at.result.1.now c.if-more-eq0.true in
-    ap not c.begins-blank-blank.ensures
+    let p = paragraph rest c.split_at.result.1.now _ c.find.ensures.value c.split_at.ensures.back in
+    let none = behind_none 10 c.split_at.result.1.now c.if-more-eq0.true in
+    ap not c.begins_blank-blank.ensures
     ∙ alone (begins_blank rest)
     ∙ ap (λ (ls : List (List ℕ)). cond (begins_blank rest) (one_first ls) (blank_next ls)) (sym none)
     ∙ sym p ∙ c.loop-more.invariant
@@ -30,23 +30,23 @@ returns-then-more-eq0 c =
 pub returns-then-not-blank : goal.returns-then-not-blank
 returns-then-not-blank c =
     let rest = c.loop-more.rest.now in
-    let back = c.split-at-in-loop-more.result.1.now in
-    let some : 0 < length c.split-at.result.1.now = omega arith in
-    let p = paragraph rest c.split-at.result.1.now _ c.find.ensures.value c.split-at.ensures.back in
-    let e = behind_some 10 c.split-at.result.1.now some ∙ ap (pieces 10) (sym c.split-at-in-loop-more.ensures.back) in
-    c.begins-blank.ensures
+    let back = c.split_at-in-loop-more.result.1.now in
+    let some : 0 < length c.split_at.result.1.now = omega arith in
+    let p = paragraph rest c.split_at.result.1.now _ c.find.ensures.value c.split_at.ensures.back in
+    let e = behind_some 10 c.split_at.result.1.now some ∙ ap (pieces 10) (sym c.split_at-in-loop-more.ensures.back) in
+    c.begins_blank.ensures
     ∙ sym (ap blank_next (pieces_cut 10 back))
     ∙ ap blank_next (sym e)
-    ∙ sym (cond-false (begins_blank rest) _ _ (sym c.begins-blank-blank.ensures ∙ c.if-not-blank.true))
+    ∙ sym (cond-false (begins_blank rest) _ _ (sym c.begins_blank-blank.ensures ∙ c.if-not-blank.true))
     ∙ sym p ∙ c.loop-more.invariant
 
 pub loop-more-preserved : goal.loop-more-preserved
 loop-more-preserved c =
     let rest = c.loop-more.rest.now in
-    let back = c.split-at-in-loop-more.result.1.now in
-    let some : 0 < length c.split-at.result.1.now = omega arith in
-    let p = paragraph rest c.split-at.result.1.now _ c.find.ensures.value c.split-at.ensures.back in
-    let e = behind_some 10 c.split-at.result.1.now some ∙ ap (pieces 10) (sym c.split-at-in-loop-more.ensures.back) in
+    let back = c.split_at-in-loop-more.result.1.now in
+    let some : 0 < length c.split_at.result.1.now = omega arith in
+    let p = paragraph rest c.split_at.result.1.now _ c.find.ensures.value c.split_at.ensures.back in
+    let e = behind_some 10 c.split_at.result.1.now some ∙ ap (pieces 10) (sym c.split_at-in-loop-more.ensures.back) in
     ap one_first (sym e)
-    ∙ sym (cond-true (begins_blank rest) _ _ (sym c.begins-blank-blank.ensures ∙ c.if-not-blank.false))
+    ∙ sym (cond-true (begins_blank rest) _ _ (sym c.begins_blank-blank.ensures ∙ c.if-not-blank.false))
     ∙ sym p ∙ c.loop-more.invariant

@@ -4,8 +4,8 @@ use Rattle.lexer.proofs.lexing.lex.Goals as goal
 
 pub tokens-preserved : goal.tokens-preserved
 tokens-preserved c =
-    let t = c.front-token-token.result in
-    let told = c.front-token-token.ensures in
+    let t = c.front_token-token.result in
+    let told = c.front_token-token.ensures in
     let text = c.args.text.now in
     let pushed = c.in-Ok.ensures.items in
     (told.bound.1, subst (Sofar text (c.tokens.at + t.length)) (sym pushed) (one_more text c.tokens.at (vec_items c.tokens.tokens) t c.tokens-test.true told.value c.tokens.invariant.1))

@@ -9,6 +9,6 @@ pub returns : goal.returns
 returns c =
     let e = c.in-Some.ensures in
     let r = take_rest c.args.tokens.now 1 in (
-      begins_more (plain_token digits) rows_form c.args.tokens.now _ (search rules) (sym c.if-not-is-plain.ensures) (simp r at e.0),
+      begins_more (plain_token digits) rows_form c.args.tokens.now _ (search rules) (sym c.if-not-is_plain.ensures) (simp r at e.0),
       simp r at e.1 ∙ drop-drop 3 1 c.args.tokens.now,
     )

@@ -6,4 +6,4 @@ pub returns : goal.returns
 returns c =
     let s = c.args.sheet.now in
     let f = c.in-Some.ensures in
-    column_is (view s) s.sound c.args.at _ c.tokens-from.ensures _ c.number-of.result c.number-of.ensures _ _ f.0 f.1 c.in-Some-digits-at.ensures c.span-of.ensures
+    column_is (view s) s.sound c.args.at _ c.tokens_from.ensures _ c.number_of.result c.number_of.ensures _ _ f.0 f.1 c.in-Some-digits_at.ensures c.span_of.ensures

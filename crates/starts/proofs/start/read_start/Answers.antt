@@ -11,11 +11,11 @@ returns-then-first-separator c =
     let s = c.in-Some.ensures in
     let t = seen_at c.args.place c.in-Some.seen in
     is_some (view c.args.sheet.now) _ _ _ (ap (start_of c.args.separator) s.0 ∙ starts_here c.args.separator t _ c.if-seen.false s.3 c.if-first-separator.true)
-    refl (c.behind-bytes.ensures ∙ ap (behind_bytes 1) s.0)
+    refl (c.behind_bytes.ensures ∙ ap (behind_bytes 1) s.0)
 
-pub returns-then-not-may-start : goal.returns-then-not-may-start
-returns-then-not-may-start c =
+pub returns-then-not-may_start : goal.returns-then-not-may_start
+returns-then-not-may_start c =
     let s = c.in-Some.ensures in
     let t = seen_at c.args.place c.in-Some.seen in
     is_none (view c.args.sheet.now) _
-    (ap (start_of c.args.separator) s.0 ∙ no_start c.args.separator t _ c.if-first-separator.false (and_right (not t.replaced) _ (sym c.if-not-may-start.ensures)))
+    (ap (start_of c.args.separator) s.0 ∙ no_start c.args.separator t _ c.if-first-separator.false (and_right (not t.replaced) _ (sym c.if-not-may_start.ensures)))

@@ -35,16 +35,16 @@ body c = field (prefix_role c.args.self.now.byte) Plain (skip true (head c).left
 abbrev cell : (c : After-scan-found) → RawCell
 cell c = (front_cell c.args.self.now.byte (view c.args.sheet.now) (at_start c)).cell
 
-head_is : (c : After-scan-found) → HeadIs (view c.args.sheet.now) c.read-head-head.result (head c)
+head_is : (c : After-scan-found) → HeadIs (view c.args.sheet.now) c.read_head-head.result (head c)
 head_is c =
     let sep = c.args.self.now.byte in
     let v = view c.args.sheet.now in
-    subst (HeadIs v c.read-head-head.result)
-    (ap (λ (i : ℕ). head_of_cell sep i (left_at v c.place-of-start.result)) c.place-of-start.ensures.first ∙ ap (head_of_cell sep (front_number (length v.tokens) (at_start c))) c.place-of-start.ensures.same)
-    c.read-head-head.ensures
+    subst (HeadIs v c.read_head-head.result)
+    (ap (λ (i : ℕ). head_of_cell sep i (left_at v c.place_of-start.result)) c.place_of-start.ensures.first ∙ ap (head_of_cell sep (front_number (length v.tokens) (at_start c))) c.place_of-start.ensures.same)
+    c.read_head-head.ensures
 
-body_is : (c : After-scan-found) → field (prefix_role c.args.self.now.byte) Plain (left_at (view c.args.sheet.now) c.skip-blanks-skipped.result.place) ≡ body c
-body_is c = ap (field (prefix_role c.args.self.now.byte) Plain) (c.skip-blanks-skipped.ensures.left ∙ ap (skip true) (head_is c).left)
+body_is : (c : After-scan-found) → field (prefix_role c.args.self.now.byte) Plain (left_at (view c.args.sheet.now) c.skip_blanks-skipped.result.place) ≡ body c
+body_is c = ap (field (prefix_role c.args.self.now.byte) Plain) (c.skip_blanks-skipped.ensures.left ∙ ap (skip true) (head_is c).left)
 
 found_is : (c : After-scan-found) → Scanned (view c.args.sheet.now) c.scan-found.result (body c)
 found_is c = subst (Scanned (view c.args.sheet.now) c.scan-found.result) (body_is c) c.scan-found.ensures
@@ -53,11 +53,11 @@ page : (c : After-scan-found) → prefix_cells c.args.self.now.byte (view c.args
 page c =
     let v = view c.args.sheet.now in
     more_cells c.args.self.now.byte v c.args.at (position_of c.scan-found.result.rest false)
-    (sym (ap none c.place-of-start.ensures.same) ∙ ap none c.in-Some.ensures.0) (found_is c).rest
+    (sym (ap none c.place_of-start.ensures.same) ∙ ap none c.in-Some.ensures.0) (found_is c).rest
 
-pub returns-in-default : goal.returns-in-default
-returns-in-default c =
-    (no_cells c.args.self.now.byte (view c.args.sheet.now) c.args.at (sym c.place-of-start.ensures.same ∙ c.in-default.ensures), unchanged _, unchanged _)
+pub returns-in_default : goal.returns-in_default
+returns-in_default c =
+    (no_cells c.args.self.now.byte (view c.args.sheet.now) c.args.at (sym c.place_of-start.ensures.same ∙ c.in_default.ensures), unchanged _, unchanged _)
 
 pub returns-then-not-fill : goal.returns-then-not-fill
 returns-then-not-fill c =
@@ -66,8 +66,8 @@ returns-then-not-fill c =
     let many = pieces_many _ (body k).texts (found_is k).finished in
     (cell k, prefix_cells c.args.self.now.byte (view c.args.sheet.now) (position_of c.scan-found.result.rest false), page k, subst (λ (n : ℕ). room c.args.pieces.now < length (entries c.args.pieces.now) + n) many f.1, refl, f.0, unchanged _)
 
-pub is-blank-inside-inside-requires : goal.is-blank-inside-inside-requires
-is-blank-inside-inside-requires c =
+pub is_blank_inside-inside-requires : goal.is_blank_inside-inside-requires
+is_blank_inside-inside-requires c =
     let f = c.if-not-fill.ensures in
     let l = ap length f.entries ∙ length-append (entries c.args.pieces.now) _ in
     let u = c.len-used.ensures in
@@ -77,15 +77,15 @@ pub returns : goal.returns
 returns c =
     let k = (goal.at.returns c).After-scan-found in
     let v = view c.args.sheet.now in
-    let d = c.told-cell.ensures in
+    let d = c.told_cell.ensures in
     let f = c.if-not-fill.ensures in
     let written = ap (λ (x : Field). map piece_of (take c.scan-found.result.finished x.texts)) (body_is k) ∙ pieces_are _ (body k).texts (found_is k).finished in
     let all = f.entries ∙ ap (λ (x : List Piece). entries c.args.pieces.now ++ x) written in
     let new = ap (drop c.len-used.result) all ∙ drop_at (entries c.args.pieces.now) (map piece_of (trim (body k).texts)) c.len-used.result (sym c.len-used.ensures) in
-    let inside = c.is-blank-inside-inside.ensures ∙ ap (λ (ps : List Piece). not c.scan-found.result.blank && two_newlines v ps) new in (
+    let inside = c.is_blank_inside-inside.ensures ∙ ap (λ (ps : List Piece). not c.scan-found.result.blank && two_newlines v ps) new in (
       cell k,
       page k ∙ ap (λ (p : Position). cell k ∷ prefix_cells c.args.self.now.byte v p) (sym d.rest),
-      cell_tells v _ _ c.read-head-head.result c.scan-found.result _ _ (head k) (body k) c.place-of-start.ensures.first d (head_is k) (found_is k) inside,
+      cell_tells v _ _ c.read_head-head.result c.scan-found.result _ _ (head k) (body k) c.place_of-start.ensures.first d (head_is k) (found_is k) inside,
       record { entries = all; room = f.room },
-      subst (λ (ns : List Note). Added c.args.notes.now c.add-note.new.notes (take (room c.args.notes.now - length (entries c.args.notes.now)) ns)) (head_is k).notes c.add-note.ensures,
+      subst (λ (ns : List Note). Added c.args.notes.now c.add_note.new.notes (take (room c.args.notes.now - length (entries c.args.notes.now)) ns)) (head_is k).notes c.add_note.ensures,
     )

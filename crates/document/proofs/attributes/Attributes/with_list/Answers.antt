@@ -13,13 +13,13 @@ step first s s' xs front trimmed ps e t w =
 
 pub returns-then-more-eq0 : goal.returns-then-more-eq0
 returns-then-more-eq0 c =
-    let e = items_parts c.loop-more.rest.now c.split-at.result.0.now c.split-at.result.1.now _ c.item-size.ensures.value c.split-at.ensures.front c.split-at.ensures.back in
-    let f = e ∙ ap (λ (l : List (List ℕ)). c.split-at.result.0.now ∷ l) (items_none _ c.if-more-eq0.true) in
-    step c.loop-more.first (said c.loop-more.attributes) _ c.loop-more.rest.now _ _ _ f c.trim.ensures c.with-item-attributes.ensures ∙ c.loop-more.invariant
+    let e = items_parts c.loop-more.rest.now c.split_at.result.0.now c.split_at.result.1.now _ c.item_size.ensures.value c.split_at.ensures.front c.split_at.ensures.back in
+    let f = e ∙ ap (λ (l : List (List ℕ)). c.split_at.result.0.now ∷ l) (items_none _ c.if-more-eq0.true) in
+    step c.loop-more.first (said c.loop-more.attributes) _ c.loop-more.rest.now _ _ _ f c.trim.ensures c.with_item-attributes.ensures ∙ c.loop-more.invariant
 
 pub loop-more-preserved : goal.loop-more-preserved
 loop-more-preserved c =
-    let some : 0 < length c.split-at.result.1.now = omega arith in
-    let e = items_parts c.loop-more.rest.now c.split-at.result.0.now c.split-at.result.1.now _ c.item-size.ensures.value c.split-at.ensures.front c.split-at.ensures.back in
-    let f = e ∙ ap (λ (l : List (List ℕ)). c.split-at.result.0.now ∷ l) (items_some _ some ∙ ap (items Front) (sym c.split-at-in-loop-more.ensures.back)) in
-    step c.loop-more.first (said c.loop-more.attributes) _ c.loop-more.rest.now _ _ _ f c.trim.ensures c.with-item-attributes.ensures ∙ c.loop-more.invariant
+    let some : 0 < length c.split_at.result.1.now = omega arith in
+    let e = items_parts c.loop-more.rest.now c.split_at.result.0.now c.split_at.result.1.now _ c.item_size.ensures.value c.split_at.ensures.front c.split_at.ensures.back in
+    let f = e ∙ ap (λ (l : List (List ℕ)). c.split_at.result.0.now ∷ l) (items_some _ some ∙ ap (items Front) (sym c.split_at-in-loop-more.ensures.back)) in
+    step c.loop-more.first (said c.loop-more.attributes) _ c.loop-more.rest.now _ _ _ f c.trim.ensures c.with_item-attributes.ensures ∙ c.loop-more.invariant

@@ -15,13 +15,13 @@ step o o' xs front trimmed ps e t w =
 
 pub returns-then-more-eq0 : goal.returns-then-more-eq0
 returns-then-more-eq0 c =
-    let e = pieces_parts 44 c.loop-more.rest.now c.split-at.result.0.now c.split-at.result.1.now _ c.find.ensures.value c.split-at.ensures.front c.split-at.ensures.back in
-    let f = e ∙ ap (λ (l : List (List ℕ)). c.split-at.result.0.now ∷ l) (behind_none 44 _ c.if-more-eq0.true) in
+    let e = pieces_parts 44 c.loop-more.rest.now c.split_at.result.0.now c.split_at.result.1.now _ c.find.ensures.value c.split_at.ensures.front c.split_at.ensures.back in
+    let f = e ∙ ap (λ (l : List (List ℕ)). c.split_at.result.0.now ∷ l) (behind_none 44 _ c.if-more-eq0.true) in
     step c.loop-more.options _ c.loop-more.rest.now _ _ _ f c.trim.ensures c.with-options.ensures ∙ c.loop-more.invariant
 
 pub loop-more-preserved : goal.loop-more-preserved
 loop-more-preserved c =
-    let some : 0 < length c.split-at.result.1.now = omega arith in
-    let e = pieces_parts 44 c.loop-more.rest.now c.split-at.result.0.now c.split-at.result.1.now _ c.find.ensures.value c.split-at.ensures.front c.split-at.ensures.back in
-    let f = e ∙ ap (λ (l : List (List ℕ)). c.split-at.result.0.now ∷ l) (behind_some 44 _ some ∙ ap (pieces 44) (sym c.split-at-in-loop-more.ensures.back)) in
+    let some : 0 < length c.split_at.result.1.now = omega arith in
+    let e = pieces_parts 44 c.loop-more.rest.now c.split_at.result.0.now c.split_at.result.1.now _ c.find.ensures.value c.split_at.ensures.front c.split_at.ensures.back in
+    let f = e ∙ ap (λ (l : List (List ℕ)). c.split_at.result.0.now ∷ l) (behind_some 44 _ some ∙ ap (pieces 44) (sym c.split_at-in-loop-more.ensures.back)) in
     step c.loop-more.options _ c.loop-more.rest.now _ _ _ f c.trim.ensures c.with-options.ensures ∙ c.loop-more.invariant

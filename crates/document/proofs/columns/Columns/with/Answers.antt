@@ -21,13 +21,13 @@ loop-i-preserved c =
 pub returns : goal.returns
 returns c =
     let self = c.args.self in
-    let count = c.saturating-add-count.result in
+    let count = c.saturating_add-count.result in
     let styles = c.loop-i.styles in
     let style = c.args.style in
     let last : min count 64 ≡ c.loop-i.i = omega arith in
     let size : c.loop-i.i - c.min-from.result ≡ min (self.count + c.args.times) 64 - min self.count 64 = omega arith in
     record {
-      count = c.saturating-add-count.ensures;
+      count = c.saturating_add-count.ensures;
       styles =
           sym (take_min count 64 styles (omega arith))
           ∙ ap (λ (n : ℕ). take n styles) last

@@ -5,12 +5,12 @@ use Rattle.cut.proofs.Adds.{added_none, unchanged}
 use Rattle.guests.specs.Each.{each_cell, each_cells}
 use Rattle.guests.proofs.each.EachTokenCutter.cut.Goals as goal
 
-pub returns-in-default : goal.returns-in-default
-returns-in-default c = (ap (map each_cell) c.in-default.ensures, unchanged _, unchanged _)
+pub returns-in_default : goal.returns-in_default
+returns-in_default c = (ap (map each_cell) c.in_default.ensures, unchanged _, unchanged _)
 
-pub returns-in-default-push : goal.returns-in-default-push
-returns-in-default-push c =
-    let p = c.in-default-push.ensures in
+pub returns-in_default-push : goal.returns-in_default-push
+returns-in_default-push c =
+    let p = c.in_default-push.ensures in
     (each_cell (seen_at (record { token = c.args.at.token; offset = c.args.at.offset }) c.in-Some.seen), map each_cell (left (view c.args.sheet.now) (c.args.at.token + 1) 0), ap (map each_cell) c.in-Some.ensures.0, omega arith, refl, record { entries = p.entries.1; room = p.room }, unchanged _)
 
 pub returns : goal.returns

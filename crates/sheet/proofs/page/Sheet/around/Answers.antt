@@ -13,9 +13,9 @@ found c =
     let h = c.in-Some.ensures.lookup in
     slice_get_read c.args.self.now.tokens.now (length c.args.self.now.tokens.now) c.args.piece.token c.in-Some.token.now refl h.3.0 h.1
 
-pub returns-in-default : goal.returns-in-default
-returns-in-default c =
-    let past = slice_get_past c.args.self.now.tokens.now c.args.piece.token c.in-default.ensures.lookup.3 in
+pub returns-in_default : goal.returns-in_default
+returns-in_default c =
+    let past = slice_get_past c.args.self.now.tokens.now c.args.piece.token c.in_default.ensures.lookup.3 in
     record { value = sym (ap (if_inside c.args.piece) past); some = tt }
 
 pub returns-then-end-token : goal.returns-then-end-token

@@ -14,11 +14,11 @@ returns c =
     let o = c.args.place.offset in
     let told = c.in-Some.ensures in
     let token = c.in-Some.token in
-    let x = c.text-of-text.ensures in
+    let x = c.text_of-text.ensures in
     let e = left_more (view s) c.args.place.token o token s.sound told.0 c.if-place-length.false in
     let m : (token.start + token.length) - (token.start + o) ≡ token.length - o = omega arith in
     let lx = ap length x in
-    let l = length-take ((token.start + token.length) - (token.start + o)) (drop (token.start + o) c.text-of-text.result.now) in
-    let d = length-drop (token.start + o) c.text-of-text.result.now in
+    let l = length-take ((token.start + token.length) - (token.start + o)) (drop (token.start + o) c.text_of-text.result.now) in
+    let d = length-drop (token.start + o) c.text_of-text.result.now in
     let lt = c.if-place-length.false in
-    (e ∙ ap (λ (y : Left). y ∷ left (view s) (c.args.place.token + 1) 0) (same_seen _ _ _ _ _ _ _ _ _ _ c.kind-from-kind.ensures m x), told.1, omega arith, omega arith)
+    (e ∙ ap (λ (y : Left). y ∷ left (view s) (c.args.place.token + 1) 0) (same_seen _ _ _ _ _ _ _ _ _ _ c.kind_from-kind.ensures m x), told.1, omega arith, omega arith)

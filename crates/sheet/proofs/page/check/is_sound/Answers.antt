@@ -6,10 +6,10 @@ use Rattle.sheet.proofs.page.check.is_sound.Goals as goal
 pub returns : goal.returns
 returns c =
     let t = c.args.token in
-    let text = c.text-of-text.ensures in
+    let text = c.text_of-text.ensures in
     let long = ap length text in
     let size : t.start + t.length - t.start ≡ t.length = omega arith in
-    c.bytes-fit.ensures
-    ∙ ap (λ (n : ℕ). bytes_fit t.kind (take n (drop t.start c.text-of-text.result.now))) size
+    c.bytes_fit.ensures
+    ∙ ap (λ (n : ℕ). bytes_fit t.kind (take n (drop t.start c.text_of-text.result.now))) size
     ∙ ap (λ (x : List ℕ). bytes_fit t.kind (take t.length (drop t.start x))) text
-    ∙ sound_by_bytes c.args.page.now c.args.replacement.now t (sym c.if-not-is-kind.ensures) (omega arith) (omega arith) (sym c.if-not-flag-fits.ensures)
+    ∙ sound_by_bytes c.args.page.now c.args.replacement.now t (sym c.if-not-is_kind.ensures) (omega arith) (omega arith) (sym c.if-not-flag_fits.ensures)

@@ -10,8 +10,8 @@ below : (g : given.Over) (c : Else-place-len g)
     → (c.args.place < c.args.self.now.used) × (c.args.place < length c.args.self.now.items.now)
 below g c = within_both c.args.self.now.used c.args.place c.args.self.now.items.now (omega (arith, c.len.ensures))
 
-pub offset-bounds-self-place : goal.offset-bounds-self-place
-offset-bounds-self-place g c = let h = below g c in search rules
+pub offset_bounds-self-place : goal.offset_bounds-self-place
+offset_bounds-self-place g c = let h = below g c in search rules
 
 pub bounds-self-place : goal.bounds-self-place
 bounds-self-place g c = (below g c).1
