@@ -151,9 +151,9 @@ fn pieces(rt: HostRuntime) -> Result<(), Fail> {
     ];
     let mut sheet = Sheet::empty();
     assert!(rt; sheet.load(PAGE, REPLACEMENT, &tokens).is_ok());
-    assert_eq!(rt; sheet.bytes(piece(0, 0, 2)).ok_or("none")?, b"12");
-    assert_eq!(rt; sheet.bytes(piece(1, 1, 1)).ok_or("none")?, b"4");
-    assert_eq!(rt; sheet.bytes(piece(1, 2, 0)).ok_or("none")?, b"");
+    assert_eq!(rt; sheet.bytes(piece(0, 0, 2)).ok_or("none")?, b"12".as_slice());
+    assert_eq!(rt; sheet.bytes(piece(1, 1, 1)).ok_or("none")?, b"4".as_slice());
+    assert_eq!(rt; sheet.bytes(piece(1, 2, 0)).ok_or("none")?, b"".as_slice());
     assert!(rt; sheet.bytes(piece(1, 1, 2)).is_none() && sheet.kind(piece(1, 1, 2)).is_none());
     assert!(rt; sheet.bytes(piece(3, 0, 0)).is_none() && sheet.kind(piece(3, 0, 0)).is_none());
     assert_eq!(rt; sheet.kind(piece(2, 0, 1)).ok_or("none")?, kind::PIPE);
