@@ -1,7 +1,7 @@
 -- Writing pieces: what is written and what is still wanted stay the same together.
 -- Assumes nothing.
-use Rattle.std.proofs.Common.{◌≡◌, ℕ, zero, suc, ◌+◌, ◌-◌, ◌<◌, ◌≤◌, Bool, true, false, cond, List, [], ◌∷◌, ◌++◌, map, length, take, sym, refl, ap, ◌∙◌, append_assoc, append-nil, arith}
-use Rattle.std.proofs.lemmas.List.{take_all, take-append-le, length-append, length_push, length-take}
+use Rattle.std.proofs.Common.{◌≡◌, ℕ, suc, ◌+◌, ◌-◌, ◌<◌, ◌≤◌, Bool, List, [], ◌∷◌, ◌++◌, map, length, take, sym, refl, ap, ◌∙◌, append_assoc, append-nil, arith}
+use Rattle.std.proofs.lemmas.List.{take_all, take-append-le, length_push, length-take}
 use Rattle.sheet.specs.Left.{Left, piece_of}
 use Rattle.sheet.specs.declared.records.Piece.{Piece}
 use Rattle.cut.specs.Field.{Field, field, more}

@@ -1,6 +1,6 @@
 -- CSV: comma-separated values.
 -- Assumes nothing.
-use Rattle.std.specs.Prelude.{Bool, true, false, cond, List, [], ◌∷◌, Some, None}
+use Rattle.std.specs.Prelude.{Bool, false, cond, List, [], ◌∷◌, Some, None}
 use Rattle.sheet.specs.Left.{Left}
 use Rattle.cut.specs.Blanks.{is_newline, skip}
 use Rattle.cut.specs.Dsv.{split_role}

@@ -1,23 +1,21 @@
 -- A cut of CSV or DSV is the first field of the page, and the page's fields meet the laws of cutters.
 -- Assumes nothing.
-use Rattle.std.specs.Prelude.{◌≡◌, ℕ, ◌+◌, ◌-◌, ◌<◌, ◌≤◌, Bool, true, false, cond, not, ◌&&◌, ◌||◌, List, [], ◌∷◌, ◌++◌, map, length, take, Some, None, Option, refl}
+use Rattle.std.specs.Prelude.{◌≡◌, ℕ, ◌+◌, ◌≤◌, Bool, true, false, cond, ◌&&◌, ◌||◌, List, [], ◌∷◌, ◌++◌, map, length, take, Some, None, Option, refl}
 use Rattle.std.proofs.Common.{sym, ap, subst, ◌∙◌, ⊎_elim, arith}
 use Rattle.std.specs.Option.{option_to_list}
 use Rattle.std.specs.List.{AllByRecursion as All}
 use Rattle.std.proofs.lemmas.List.{length-map, length-append}
 use Rattle.std.proofs.lemmas.Bool.{cond-true, cond-false, cases_Bool}
-use Rattle.sheet.specs.Left.{Left, left, left_at, piece_of, front_number}
+use Rattle.sheet.specs.Left.{Left, left, left_at, piece_of}
 use Rattle.sheet.specs.View.{SheetView}
-use Rattle.sheet.specs.declared.records.Piece.{Piece}
-use Rattle.sheet.specs.declared.records.Place.{Place}
 use Rattle.sheet.specs.declared.records.Position.{Position}
 use Rattle.cut.specs.Answer.{Tells, FirstIs, Fits}
-use Rattle.cut.specs.Blanks.{is_blank, skip, skips_newline, newline_next, none, keep, trim}
-use Rattle.cut.specs.Field.{Field, field}
-use Rattle.cut.specs.Fields.{Begin, at_line, at_mark, open_note, notes_of, finish, front_field, no_field, next_field, fields, position_of, first_note, ToldField}
+use Rattle.cut.specs.Blanks.{is_blank, skip, newline_next, keep, trim}
+use Rattle.cut.specs.Field.{Field}
+use Rattle.cut.specs.Fields.{Begin, at_line, open_note, notes_of, finish, front_field, no_field, next_field, fields, first_note, ToldField}
 use Rattle.cut.specs.Insides.{InsideLeft}
 use Rattle.cut.specs.Moves.{AllMove}
-use Rattle.cut.specs.Raw.{RawCell, Next, bound, cells_of}
+use Rattle.cut.specs.Raw.{RawCell, Next, cells_of}
 use Rattle.starts.specs.Weight.{weight}
 use Rattle.cut.specs.Scanned.{Scanned, head_of, note_at}
 use Rattle.cut.specs.declared.machine.Close.{Close}

@@ -1,6 +1,6 @@
 -- DSV: delimiter-separated values.
 -- Assumes nothing.
-use Rattle.std.specs.Prelude.{ℕ, ◌+◌, Bool, true, false, cond, List, [], ◌∷◌, Some, None}
+use Rattle.std.specs.Prelude.{◌+◌, false, cond, List, [], ◌∷◌, None}
 use Rattle.sheet.specs.Left.{Left}
 use Rattle.cut.specs.Blanks.{is_newline}
 use Rattle.cut.specs.Field.{is_escaped}

@@ -1,10 +1,10 @@
 -- One cell read token by token, whatever the format: a format says what each token does, by its role.
 -- A role depends on how the cell is read on (its state), on the token in front and on what follows it.
 -- Assumes nothing.
-use Rattle.std.specs.Prelude.{ℕ, ◌+◌, Bool, true, false, cond, ◌||◌, List, [], ◌∷◌, length, take, drop}
+use Rattle.std.specs.Prelude.{ℕ, Bool, true, false, cond, ◌||◌, List, [], ◌∷◌, length, take, drop}
 use Rattle.sheet.specs.Left.{Left, behind_bytes}
 use Rattle.sheet.specs.Kinds.{word}
-use Rattle.cut.specs.Blanks.{is_newline, is_blank, trim}
+use Rattle.cut.specs.Blanks.{is_newline, trim}
 use Rattle.cut.specs.declared.machine.Close.{Close}
 use Rattle.cut.specs.declared.machine.Close.TheVariants.{End, Line, Mark}
 use Rattle.cut.specs.declared.machine.Role.{Role}

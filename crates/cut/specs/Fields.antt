@@ -1,6 +1,6 @@
 -- CSV and DSV: how a field begins, what it makes, and the fields of a page.
 -- Assumes nothing.
-use Rattle.std.specs.Prelude.{◌≡◌, ℕ, ◌+◌, Bool, true, false, cond, not, ◌&&◌, ◌||◌, List, [], ◌∷◌, ◌++◌, map, length, Some, None, Option}
+use Rattle.std.specs.Prelude.{◌≡◌, ℕ, ◌+◌, Bool, true, false, cond, not, ◌&&◌, ◌||◌, List, ◌++◌, map, length, Some, None, Option}
 use Rattle.std.specs.Option.{option_to_list}
 use Rattle.sheet.specs.Left.{Left, left, left_at, piece_of, front_number}
 use Rattle.sheet.specs.View.{SheetView}

@@ -1,18 +1,14 @@
 -- Fields take something, and what they leave and take lies inside tokens.
 -- Assumes nothing.
-use Rattle.std.specs.Prelude.{◌≡◌, ℕ, zero, suc, ◌+◌, ◌-◌, ◌*◌, ◌<◌, ◌≤◌, Bool, true, false, cond, not, ◌&&◌, ◌⊎◌, List, [], ◌∷◌, map, length, take, is_some, Some, None, Option, nat_lt, refl}
-use Rattle.std.proofs.Common.{sym, ap, subst, ◌∙◌, inl, inr, ⊎_elim, arith, length-drop, length-take}
-use Rattle.std.specs.List.{slice_get, AllByRecursion as All}
-use Rattle.std.proofs.lemmas.Bool.{cond-true, cond-false, ltb-true, leb-true, le-leb, and_cases, false≢true}
-use Rattle.sheet.specs.Left.{Left, behind_bytes, back_of, piece_of, front_number}
-use Rattle.sheet.specs.View.{SheetView, inside, if_inside, around}
-use Rattle.sheet.specs.declared.records.Token.{Token}
-use Rattle.cut.specs.Blanks.{skip, skips_newline, none, is_blank, keep, trim}
-use Rattle.cut.specs.Field.{Field, field, closed, front_of}
-use Rattle.cut.specs.Fields.{Begin, at_mark, finish, front_field, no_field, next_field}
-use Rattle.cut.specs.Insides.{Inside, InsideLeft}
+use Rattle.std.specs.Prelude.{◌≡◌, ℕ, ◌+◌, ◌<◌, ◌≤◌, Bool, true, false, cond, ◌⊎◌, List, [], ◌∷◌, length, Some, None, nat_lt, refl}
+use Rattle.std.proofs.Common.{ap, subst, ◌∙◌, inl, inr, ⊎_elim, arith, length-drop}
+use Rattle.std.proofs.lemmas.Bool.{ltb-true, and_cases}
+use Rattle.sheet.specs.Left.{Left, behind_bytes, back_of}
+use Rattle.cut.specs.Blanks.{skip, none}
+use Rattle.cut.specs.Field.{Field, field}
+use Rattle.cut.specs.Fields.{Begin, at_mark, front_field, no_field, next_field}
 use Rattle.cut.specs.Moves.{Moves, AllMove}
-use Rattle.cut.specs.Raw.{RawCell, Next, bound}
+use Rattle.cut.specs.Raw.{Next, bound}
 use Rattle.starts.specs.Weight.{weight}
 use Rattle.cut.specs.declared.machine.Close.{Close}
 use Rattle.cut.specs.declared.machine.Close.TheVariants.{End, Line, Mark}
@@ -21,7 +17,7 @@ use Rattle.cut.specs.declared.machine.Role.TheVariants.{EndsLine, Separates, Sta
 use Rattle.cut.specs.declared.machine.State.{State}
 use Rattle.cut.specs.declared.machine.State.TheVariants.{Plain}
 use Rattle.cut.specs.Scans.{by_role}
-use Rattle.cut.specs.Skips.{skip_le, skip_all}
+use Rattle.cut.specs.Skips.{skip_le}
 
 -- behind some bytes there is less
 pub behind_less : (n : ℕ) (t : Left) (ts : List Left) → 0 < n → weight (behind_bytes n (t ∷ ts)) + 2 ≤ weight (t ∷ ts)

@@ -1,17 +1,15 @@
 -- In CSV and in DSV, what closes a cell takes something.
 -- Assumes nothing.
-use Rattle.std.specs.Prelude.{ℕ, ◌+◌, ◌<◌, Bool, true, false, List, [], ◌∷◌}
+use Rattle.std.specs.Prelude.{Bool, true, false, [], ◌∷◌}
 use Rattle.std.proofs.Common.{arith}
 use Rattle.std.proofs.lemmas.Bool.{cond_both}
 use Rattle.sheet.specs.Left.{Left}
 use Rattle.cut.specs.Blanks.{is_newline}
-use Rattle.cut.specs.Csv.{quote_next, quote_role, csv_plain, csv_at, csv_role}
-use Rattle.cut.specs.Dsv.{split_role, dsv_plain, dsv_role}
+use Rattle.cut.specs.Csv.{quote_next, quote_role, csv_role}
+use Rattle.cut.specs.Dsv.{split_role, dsv_role}
 use Rattle.cut.specs.Field.{is_doubled, is_escaped, is_inside}
 use Rattle.cut.specs.Moves.{Moves, AllMove}
-use Rattle.cut.specs.Separators.{separates, splits, split_at, escapes, quotes}
-use Rattle.cut.specs.declared.machine.Role.{Role}
-use Rattle.cut.specs.declared.machine.State.{State}
+use Rattle.cut.specs.Separators.{separates, splits, escapes, quotes}
 use Rattle.cut.specs.declared.types.Separator.{Separator}
 
 split_moves : (sep : Separator) (t : Left) → Moves (split_role sep t)

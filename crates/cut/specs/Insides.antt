@@ -1,6 +1,6 @@
 -- Pieces that lie inside tokens.
 -- Assumes nothing.
-use Rattle.std.specs.Prelude.{◌≡◌, ℕ, ◌+◌, ◌≤◌, true, is_some}
+use Rattle.std.specs.Prelude.{◌≡◌, true, is_some}
 use Rattle.sheet.specs.Left.{Left, piece_of}
 use Rattle.sheet.specs.View.{SheetView, around}
 use Rattle.sheet.specs.declared.records.Piece.{Piece}

@@ -4,14 +4,14 @@ use Rattle.std.specs.Prelude.{◌≡◌, ℕ, zero, suc, ◌+◌, ◌-◌, ◌<�
 use Rattle.std.proofs.Common.{sym, ap, ◌∙◌, arith, length-drop, length-take}
 use Rattle.std.specs.List.{slice_get, AllByRecursion as All}
 use Rattle.std.proofs.lemmas.List.{drop-drop}
-use Rattle.std.proofs.lemmas.Bool.{ltb-true, leb-true, le-leb, false≢true}
+use Rattle.std.proofs.lemmas.Bool.{ltb-true, leb-true, le-leb}
 use Rattle.sheet.specs.Left.{Left, token_from, wholes, left_from, left, behind_bytes, back_of, piece_of}
 use Rattle.sheet.specs.Sound.{text_of}
 use Rattle.sheet.specs.View.{SheetView, if_inside}
 use Rattle.sheet.specs.declared.records.Piece.{Piece}
 use Rattle.sheet.specs.declared.records.Token.{Token}
 use Rattle.cut.specs.Blanks.{is_blank, keep, trim}
-use Rattle.cut.specs.Field.{Field, field, front_of}
+use Rattle.cut.specs.Field.{field, front_of}
 use Rattle.cut.specs.Insides.{Inside, InsideLeft}
 use Rattle.cut.specs.declared.machine.Role.{Role}
 use Rattle.cut.specs.declared.machine.Role.TheVariants.{EndsLine, Separates, Starts, Splits, Drops, Takes, Notes}

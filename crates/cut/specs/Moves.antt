@@ -1,6 +1,6 @@
 -- Roles that take something when they close a cell, so that a page has finitely many cells.
 -- Assumes nothing.
-use Rattle.std.specs.Prelude.{ℕ, ◌<◌, List}
+use Rattle.std.specs.Prelude.{◌<◌, List}
 use Rattle.sheet.specs.Left.{Left}
 use Rattle.cut.specs.declared.machine.Role.{Role}
 use Rattle.cut.specs.declared.machine.Role.TheVariants.{EndsLine, Separates, Starts, Splits, Drops, Takes, Notes}

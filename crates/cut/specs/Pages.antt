@@ -5,7 +5,6 @@ use Rattle.std.specs.Prelude.{◌≡◌, ℕ, ◌+◌, false, List, [], ◌∷�
 use Rattle.std.specs.List.{flat_map}
 use Rattle.sheet.specs.Kinds.{comma, digits, dots, double_quote, newline, pipe, plus, star, whitespace, word}
 use Rattle.sheet.specs.View.{SheetView, piece_bytes}
-use Rattle.sheet.specs.declared.records.Piece.{Piece}
 use Rattle.sheet.specs.declared.records.Position.{Position}
 use Rattle.sheet.specs.declared.records.Token.{Token}
 use Rattle.cut.specs.Csv.{csv_role, csv_begin}

@@ -1,6 +1,6 @@
 -- What a scan of a cell tells, and how it comes to know it piece by piece.
 -- Assumes nothing.
-use Rattle.std.specs.Prelude.{◌≡◌, ℕ, ◌<◌, ◌≤◌, Bool, true, false, cond, not, ◌||◌, List, [], ◌∷◌, length, Some, None, Option, ◌==◌}
+use Rattle.std.specs.Prelude.{◌≡◌, ℕ, ◌<◌, ◌≤◌, Bool, true, false, cond, ◌||◌, List, [], ◌∷◌, length, Some, None, Option, ◌==◌}
 use Rattle.sheet.specs.Kinds.{newline, whitespace}
 use Rattle.sheet.specs.Left.{left_at}
 use Rattle.sheet.specs.Limits.{max_tokens}

@@ -5,11 +5,10 @@ use Rattle.std.proofs.Common.{sym, ap, subst, ◌∙◌, arith}
 use Rattle.sheet.specs.Left.{Left, left_at, behind_bytes}
 use Rattle.sheet.specs.Limits.{max_tokens}
 use Rattle.sheet.specs.View.{SheetView}
-use Rattle.cut.specs.Blanks.{is_blank, trim}
+use Rattle.cut.specs.Blanks.{is_blank}
 use Rattle.cut.specs.Field.{Field, field, closed, more, noted, front_of}
 use Rattle.cut.specs.Scanned.{Few, Scanned, head_of, first_with, tail_with, is_two}
-use Rattle.cut.specs.declared.machine.Close.{Close}
-use Rattle.cut.specs.declared.machine.Close.TheVariants.{End, Line, Mark}
+use Rattle.cut.specs.declared.machine.Close.TheVariants.{Line, Mark}
 use Rattle.cut.specs.declared.machine.Role.{Role}
 use Rattle.cut.specs.declared.machine.Role.TheVariants.{EndsLine, Separates, Starts, Splits, Drops, Takes, Notes}
 use Rattle.cut.specs.declared.machine.State.{State}

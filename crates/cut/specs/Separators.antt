@@ -1,6 +1,6 @@
 -- Separators, escapes and quotes. A replaced token is none of them.
 -- Assumes nothing.
-use Rattle.std.specs.Prelude.{ℕ, Bool, false, cond, not, ◌&&◌, ◌||◌, List, [], ◌∷◌, length, ◌==◌, nat_le, nat_lt, slice_index}
+use Rattle.std.specs.Prelude.{ℕ, Bool, false, cond, not, ◌&&◌, List, length, ◌==◌, nat_le, nat_lt, slice_index}
 use Rattle.std.specs.List.{prefix_len}
 use Rattle.sheet.specs.Kinds.{backslash, colon, comma, double_quote, pipe, semi_colon, word}
 use Rattle.sheet.specs.Left.{Left}

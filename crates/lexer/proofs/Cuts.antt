@@ -1,16 +1,16 @@
 -- From a text cut token by token: the bytes joined are the text, and every token is sound.
 -- Assumes nothing.
-use Rattle.std.proofs.Common.{◌≡◌, ℕ, zero, suc, ◌+◌, ◌<◌, ◌≤◌, Bool, true, false, cond, not, ◌&&◌, ◌||◌, eqb, ltb, leb, List, [], ◌∷◌, ◌++◌, length, get_or, take, drop, is_some, Some, None, Option, sym, refl, ap, ◌∙◌, subst, ⊎_elim, append_assoc, append-nil, arith, length-drop, take-append-drop}
+use Rattle.std.proofs.Common.{◌≡◌, ℕ, zero, suc, ◌+◌, ◌<◌, ◌≤◌, Bool, true, false, cond, not, ◌&&◌, ◌||◌, eqb, ltb, leb, List, [], ◌∷◌, ◌++◌, length, take, drop, is_some, Some, None, Option, sym, refl, ap, ◌∙◌, subst, ⊎_elim, append_assoc, append-nil, arith, length-drop, take-append-drop}
 use Rattle.std.specs.List.{flat_map}
-use Rattle.std.proofs.lemmas.List.{drop-drop, drop_all, drop_more}
+use Rattle.std.proofs.lemmas.List.{drop-drop, drop_all}
 use Rattle.std.proofs.lemmas.Bool.{lt-ltb, le-leb, lt-leb, ne_eqb, eqb-true, and_from, and_parts, and_right, or_from, or_right, or_cases, cond-true, cond-false, cases_Bool, cases_eq, cases_lt, both_ways, false≢true}
 use Rattle.sheet.specs.Kinds.{callout_number, digits, newline, word}
 use Rattle.sheet.specs.Sound.{is_kind, is_digit, all_digits, one_byte, just_one_byte, bytes_fit, flag_fits, sound_token, all_sound, token_bytes}
 use Rattle.sheet.specs.declared.records.Token.{Token}
-use Rattle.lexer.specs.Kinds.{is_blank, is_letter, mark_of, marks, kind_of, joins}
+use Rattle.lexer.specs.Kinds.{is_blank, is_letter, kind_of, joins}
 use Rattle.lexer.specs.Front.{run, callout, plain_length, front_kind, front_length, front}
 use Rattle.lexer.specs.Lexed.{Cut, Lexed}
-use Rattle.lexer.proofs.Fronts.{front_bounds, front_bounds_at}
+use Rattle.lexer.proofs.Fronts.{front_bounds}
 
 -- the bytes of the tokens, joined, are what is left of the text
 whole_from : (text : List ℕ) (at : ℕ) (ts : List Token) → Cut text at ts → flat_map (token_bytes text []) ts ≡ drop at text

@@ -1,11 +1,11 @@
 -- The token at the front: a callout, a run, or one byte.
 -- Assumes nothing.
-use Rattle.std.proofs.Common.{◌≡◌, ℕ, zero, suc, ◌+◌, ◌<◌, ◌≤◌, Bool, true, false, cond, ◌&&◌, eqb, ltb, List, [], ◌∷◌, length, get_or, drop, sym, refl, ap, ◌∙◌, arith, length-drop}
-use Rattle.std.proofs.lemmas.Bool.{eq-eqb, ltb-true, lt-ltb, le-ltb, and_parts, and_from, and_left, and_right, cond-true, cond-false, cases_Bool}
+use Rattle.std.proofs.Common.{◌≡◌, ℕ, suc, ◌+◌, ◌<◌, ◌≤◌, Bool, true, false, cond, ◌&&◌, eqb, ltb, List, [], ◌∷◌, length, get_or, drop, sym, refl, ap, ◌∙◌, arith, length-drop}
+use Rattle.std.proofs.lemmas.Bool.{eq-eqb, ltb-true, lt-ltb, le-ltb, and_parts, and_from, and_left, and_right, cond-true, cond-false}
 use Rattle.sheet.specs.Kinds.{callout_number}
 use Rattle.sheet.specs.declared.records.Token.{Token}
 use Rattle.lexer.specs.Kinds.{kind_of, joins}
-use Rattle.lexer.specs.Front.{is_at, run, between, callout_of, callout, plain_length, front_kind, front_length, front}
+use Rattle.lexer.specs.Front.{is_at, run, between, callout_of, callout, plain_length, front_length, front}
 
 -- where the first byte opens a callout, what stands behind it decides
 module _ (bs : List ℕ) (n : ℕ) (opens : is_at bs 0 60 ≡ true) (inner : n ≡ between (drop 1 bs)) where

@@ -151,7 +151,10 @@ fn pieces(rt: HostRuntime) -> Result<(), Fail> {
     ];
     let mut sheet = Sheet::empty();
     assert!(rt; sheet.load(PAGE, REPLACEMENT, &tokens).is_ok());
-    assert_eq!(rt; sheet.bytes(piece(0, 0, 2)).ok_or("none")?, b"12".as_slice());
+    assert_eq!(rt;
+        sheet.bytes(piece(0, 0, 2)).ok_or("none")?,
+        b"12".as_slice()
+    );
     assert_eq!(rt; sheet.bytes(piece(1, 1, 1)).ok_or("none")?, b"4".as_slice());
     assert_eq!(rt; sheet.bytes(piece(1, 2, 0)).ok_or("none")?, b"".as_slice());
     assert!(rt; sheet.bytes(piece(1, 1, 2)).is_none() && sheet.kind(piece(1, 1, 2)).is_none());

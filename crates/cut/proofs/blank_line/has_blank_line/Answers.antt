@@ -1,4 +1,4 @@
-use Rattle.std.proofs.Common.{◌≡◌, ℕ, ◌+◌, ◌<◌, get_or, drop, sym, ap, ◌∙◌, add-zero, arith, length-drop}
+use Rattle.std.proofs.Common.{ℕ, get_or, drop, sym, ap, ◌∙◌, add-zero, arith, length-drop}
 use Rattle.sheet.specs.View.{view, is_newline_piece}
 use Rattle.sheet.specs.declared.records.Piece.{Piece}
 use Rattle.cut.proofs.BlankLines.{few_pieces, pair_found, pair_at}

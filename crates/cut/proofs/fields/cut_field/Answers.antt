@@ -1,14 +1,13 @@
-use Rattle.std.proofs.Common.{◌≡◌, ℕ, ◌+◌, ◌-◌, ◌<◌, Bool, true, false, not, ◌&&◌, List, ◌∷◌, ◌++◌, map, length, take, Option, sym, refl, ap, ◌∙◌, subst}
-use Rattle.store.specs.Changes.{Same, Added}
+use Rattle.std.proofs.Common.{◌≡◌, ℕ, ◌+◌, ◌-◌, ◌<◌, not, ◌&&◌, List, ◌∷◌, ◌++◌, map, length, take, Option, sym, refl, ap, ◌∙◌, subst}
+use Rattle.store.specs.Changes.{Added}
 use Rattle.store.specs.Entries.{entries, room}
 use Rattle.sheet.specs.Left.{Left, left, left_at, piece_of}
 use Rattle.sheet.specs.View.{view}
 use Rattle.sheet.specs.declared.records.Piece.{Piece}
 use Rattle.sheet.specs.declared.records.Position.{Position}
-use Rattle.cut.specs.Answer.{Tells}
-use Rattle.cut.specs.Blanks.{none, skip, skips_newline, trim}
+use Rattle.cut.specs.Blanks.{none, skip, skips_newline}
 use Rattle.cut.specs.Field.{Field, field}
-use Rattle.cut.specs.Fields.{Begin, fields, front_field, notes_of, position_of, at_mark, no_field}
+use Rattle.cut.specs.Fields.{Begin, fields, front_field, notes_of, position_of, at_mark}
 use Rattle.cut.specs.Raw.{RawCell}
 use Rattle.cut.specs.Scanned.{Scanned}
 use Rattle.cut.specs.declared.machine.State.{State}

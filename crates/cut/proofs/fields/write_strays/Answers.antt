@@ -1,9 +1,8 @@
-use Rattle.std.proofs.Common.{◌≡◌, ℕ, ◌-◌, List, [], map, length, take, sym, ap, ◌∙◌, subst}
+use Rattle.std.proofs.Common.{ℕ, ◌-◌, List, map, length, take, sym, ◌∙◌, subst}
 use Rattle.std.proofs.lemmas.List.{nil_from_length}
 use Rattle.store.specs.Changes.{Added}
 use Rattle.store.specs.Entries.{entries, room}
 use Rattle.cut.specs.Scanned.{note_at}
-use Rattle.cut.specs.declared.types.Note.{Note}
 use Rattle.cut.proofs.Adds.{added_none}
 use Rattle.cut.proofs.fields.write_strays.Goals as goal
 

@@ -1,6 +1,5 @@
-use Rattle.std.proofs.Common.{◌≡◌, ◌+◌, refl, ap, ◌∙◌}
-use Rattle.sheet.specs.Left.{left_at, seen_at, behind_bytes}
-use Rattle.sheet.specs.View.{view}
+use Rattle.std.proofs.Common.{refl, ap, ◌∙◌}
+use Rattle.sheet.specs.Left.{seen_at, behind_bytes}
 use Rattle.cut.specs.Field.{field}
 use Rattle.cut.specs.declared.machine.Role.TheVariants.{EndsLine, Separates, Starts, Splits}
 use Rattle.cut.specs.Scans.{field_at, goes_at, goes_done, goes_split}

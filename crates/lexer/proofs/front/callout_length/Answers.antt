@@ -1,6 +1,6 @@
 use Rattle.std.proofs.Common.{◌≡◌, drop, sym, ap, ◌∙◌, arith}
 use Rattle.std.proofs.lemmas.List.{take_rest}
-use Rattle.lexer.specs.Front.{is_at, between}
+use Rattle.lexer.specs.Front.{between}
 use Rattle.lexer.proofs.Fronts.{no_callout_empty, no_callout_open, callout_closed}
 use Rattle.lexer.proofs.front.callout_length.Goals as goal
 use Rattle.lexer.proofs.front.callout_length.Goals.{After-between_brackets-inner}

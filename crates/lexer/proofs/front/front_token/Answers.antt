@@ -2,7 +2,7 @@ use Rattle.std.proofs.Common.{◌≡◌, ℕ, List, get_or, drop, sym, ap, ◌�
 use Rattle.std.proofs.lemmas.List.{take_rest}
 use Rattle.std.proofs.lemmas.Bool.{cond-true, cond-false}
 use Rattle.lexer.specs.Kinds.{kind_of, joins}
-use Rattle.lexer.specs.Front.{run, callout, front}
+use Rattle.lexer.specs.Front.{run, callout}
 use Rattle.lexer.proofs.Fronts.{front_callout, front_plain, front_bounds_at}
 use Rattle.lexer.proofs.front.front_token.Goals as goal
 use Rattle.lexer.proofs.front.front_token.Goals.{After-callout_length-callout, After-kind_of-kind}

@@ -1,4 +1,4 @@
-use Rattle.std.proofs.Common.{◌≡◌, ◌+◌, vec_items, sym, subst, arith}
+use Rattle.std.proofs.Common.{◌+◌, vec_items, sym, subst, arith}
 use Rattle.lexer.proofs.Cuts.{Sofar, one_more, all_done}
 use Rattle.lexer.proofs.lexing.lex.Goals as goal
 

@@ -1,6 +1,6 @@
 use Rattle.std.proofs.Common.{◌≡◌, ℕ, ◌<◌, List, ◌∷◌, length, fold, sym, ap, ◌∙◌, arith}
 use Rattle.document.specs.Bytes.{trim}
-use Rattle.document.specs.Pieces.{pieces, behind}
+use Rattle.document.specs.Pieces.{pieces}
 use Rattle.document.specs.Attributes.{with_option, with_options}
 use Rattle.document.specs.declared.attributes.Options as options
 use Rattle.document.proofs.Cuts.{pieces_parts, behind_none, behind_some}

@@ -1,8 +1,8 @@
-use Rattle.std.proofs.Common.{◌≡◌, ◌+◌, ◌<◌, List, [], map, sym, refl, ap, ◌∙◌, arith}
-use Rattle.sheet.specs.Left.{Left, left, seen_at}
+use Rattle.std.proofs.Common.{◌+◌, map, refl, ap, arith}
+use Rattle.sheet.specs.Left.{left, seen_at}
 use Rattle.sheet.specs.View.{view}
 use Rattle.cut.proofs.Adds.{added_none, unchanged}
-use Rattle.guests.specs.Each.{each_cell, each_cells}
+use Rattle.guests.specs.Each.{each_cell}
 use Rattle.guests.proofs.each.EachTokenCutter.cut.Goals as goal
 
 pub returns-in_default : goal.returns-in_default

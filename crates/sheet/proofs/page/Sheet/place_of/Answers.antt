@@ -1,4 +1,4 @@
-use Rattle.std.proofs.Common.{◌≡◌, length, sym, refl, ap, ◌∙◌, arith}
+use Rattle.std.proofs.Common.{length, sym, ap, ◌∙◌, arith}
 use Rattle.sheet.specs.View.{view}
 use Rattle.sheet.specs.Left.{front_number}
 use Rattle.sheet.proofs.Lefts.{left_end}

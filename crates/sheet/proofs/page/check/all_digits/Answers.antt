@@ -1,6 +1,5 @@
 use Rattle.std.proofs.Common.{sym, ◌∙◌, rules}
 use Rattle.std.proofs.lemmas.List.{at_drop_more, at_drop_all}
-use Rattle.std.proofs.lemmas.Bool.{and_left}
 use Rattle.sheet.specs.Sound.{all_digits}
 use Rattle.sheet.proofs.page.check.all_digits.Goals as goal
 

@@ -1,4 +1,4 @@
-use Rattle.std.proofs.Common.{sym, refl, ◌∙◌}
+use Rattle.std.proofs.Common.{sym, ◌∙◌}
 use Rattle.std.proofs.lemmas.List.{at_drop_all, get_or_default}
 use Rattle.sheet.specs.Sound.{first_unsound}
 use Rattle.sheet.proofs.Tokens.{first_here, first_later}
