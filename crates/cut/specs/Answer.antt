@@ -1,7 +1,7 @@
 -- What a cut answers, and the laws of what a cutter means.
 -- Assumes nothing.
 use Rattle.std.specs.Prelude.{◌≡◌, ◌+◌, ◌-◌, ◌<◌, ◌≤◌, List, [], ◌∷◌, length, take, Some, None, Ok, Err, Option, Result}
-use Rattle.std.specs.List.{AllByRecursion as All}
+use Rattle.std.specs.List.{AllByRecursion}
 use Rattle.store.specs.Changes.{Same, Added}
 use Rattle.store.specs.Entries.{entries, room}
 use Rattle.store.specs.declared.list.Store.{Store}
@@ -56,6 +56,6 @@ FirstIs v p (raw ∷ rest) = raw.first ≡ front_number (length v.tokens) (left 
 
 -- each piece of a raw cell lies inside a token, and its spans count
 pub record Fits (v : SheetView) (raw : RawCell) : Type 0 where
-  pub inside : All (Inside v) raw.pieces
+  pub inside : AllByRecursion (Inside v) raw.pieces
   pub columns : 1 ≤ raw.specifier.columns
   pub rows : 1 ≤ raw.specifier.rows

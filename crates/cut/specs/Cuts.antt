@@ -3,7 +3,7 @@
 use Rattle.std.specs.Prelude.{◌≡◌, ℕ, ◌+◌, ◌≤◌, Bool, true, false, cond, ◌&&◌, ◌||◌, List, [], ◌∷◌, ◌++◌, map, length, take, Some, None, Option, refl}
 use Rattle.std.proofs.Common.{sym, ap, subst, ◌∙◌, ⊎_elim, arith}
 use Rattle.std.specs.Option.{option_to_list}
-use Rattle.std.specs.List.{AllByRecursion as All}
+use Rattle.std.specs.List.{AllByRecursion}
 use Rattle.std.proofs.lemmas.List.{length-map, length-append}
 use Rattle.std.proofs.lemmas.Bool.{cond-true, cond-false, cases_Bool}
 use Rattle.sheet.specs.Left.{Left, left, left_at, piece_of}
@@ -102,22 +102,22 @@ module _ (role : State → List Left → Role) (moves : AllMove role) (begin : L
       refl)
       (cases_Bool (no_field p.separated (left v p.token p.offset)))
 
-  module _ (insides : (ts : List Left) → All (InsideLeft v) ts → All (InsideLeft v) (begin ts).left) where
-    front_fits : (s : Bool) (ts : List Left) → All (InsideLeft v) ts
-        → Fits v (front_field role begin (length v.tokens) s ts).cell × All (InsideLeft v) (front_field role begin (length v.tokens) s ts).left
+  module _ (insides : (ts : List Left) → AllByRecursion (InsideLeft v) ts → AllByRecursion (InsideLeft v) (begin ts).left) where
+    front_fits : (s : Bool) (ts : List Left) → AllByRecursion (InsideLeft v) ts
+        → Fits v (front_field role begin (length v.tokens) s ts).cell × AllByRecursion (InsideLeft v) (front_field role begin (length v.tokens) s ts).left
     front_fits s ts h =
         let b = begin (skip s ts) in
         let f = field_all v role b.state b.left (insides (skip s ts) (skip_all (InsideLeft v) s ts h)) in
         (record { inside = pieces_all v _ (trim_all (InsideLeft v) _ f.0); columns = omega arith; rows = omega arith }, f.1)
 
-    step : (s : Bool) (ts : List Left) (c : Next) → next_field role begin (length v.tokens) s ts ≡ Some c → All (InsideLeft v) ts → Fits v c.cell × All (InsideLeft v) c.left
+    step : (s : Bool) (ts : List Left) (c : Next) → next_field role begin (length v.tokens) s ts ≡ Some c → AllByRecursion (InsideLeft v) ts → Fits v c.cell × AllByRecursion (InsideLeft v) c.left
     step s ts c e h = go (no_field s ts) e
       where
-        go : (b : Bool) → cond b None (Some (front_field role begin (length v.tokens) s ts)) ≡ Some c → Fits v c.cell × All (InsideLeft v) c.left
+        go : (b : Bool) → cond b None (Some (front_field role begin (length v.tokens) s ts)) ≡ Some c → Fits v c.cell × AllByRecursion (InsideLeft v) c.left
         go true q = let z : ◌≡◌ {A = ℕ} 0 1 = cc in absurd (omega arith)
         go false q =
             let same : front_field role begin (length v.tokens) s ts ≡ c = cc in
-            subst (λ (x : Next). Fits v x.cell × All (InsideLeft v) x.left) same (front_fits s ts h)
+            subst (λ (x : Next). Fits v x.cell × AllByRecursion (InsideLeft v) x.left) same (front_fits s ts h)
 
-    pub fields_fit : (p : Position) → All (Fits v) (fields role begin v p)
-    fields_fit p = cells_all (next_field role begin (length v.tokens)) (All (InsideLeft v)) (Fits v) step _ p.separated (left v p.token p.offset) (left_all v p.token p.offset)
+    pub fields_fit : (p : Position) → AllByRecursion (Fits v) (fields role begin v p)
+    fields_fit p = cells_all (next_field role begin (length v.tokens)) (AllByRecursion (InsideLeft v)) (Fits v) step _ p.separated (left v p.token p.offset) (left_all v p.token p.offset)

@@ -2,7 +2,7 @@
 -- Assumes nothing.
 use Rattle.std.specs.Prelude.{◌≡◌, ℕ, zero, suc, ◌-◌, ◌<◌, ◌≤◌, Bool, List, [], ◌∷◌, Some, None, Option, ◌≢◌, refl}
 use Rattle.std.proofs.Common.{sym, ap, ◌∙◌, arith}
-use Rattle.std.specs.List.{AllByRecursion as All}
+use Rattle.std.specs.List.{AllByRecursion}
 use Rattle.sheet.specs.Left.{Left}
 use Rattle.cut.specs.Raw.{RawCell, Next, cells_up_to, bound, cells_of}
 
@@ -28,11 +28,11 @@ module _ (next : Bool → List Left → Option Next) where
 
   -- what holds of what is left and passes to what each cell leaves gives what holds of each cell
   pub cells_all : (P : List Left → Type 0) (Q : RawCell → Type 0) → ((s : Bool) (ts : List Left) (c : Next) → next s ts ≡ Some c → P ts → Q c.cell × P c.left)
-      → (n : ℕ) (s : Bool) (ts : List Left) → P ts → All Q (cells_up_to next n s ts)
+      → (n : ℕ) (s : Bool) (ts : List Left) → P ts → AllByRecursion Q (cells_up_to next n s ts)
   cells_all P Q step zero s ts p = tt
   cells_all P Q step (suc n) s ts p = go (λ s' ts' p'. cells_all P Q step n s' ts' p') (next s ts) refl
     where
-      go : ((s' : Bool) (ts' : List Left) → P ts' → All Q (cells_up_to next n s' ts')) → (o : Option Next) → next s ts ≡ o → All Q (turn next n o)
+      go : ((s' : Bool) (ts' : List Left) → P ts' → AllByRecursion Q (cells_up_to next n s' ts')) → (o : Option Next) → next s ts ≡ o → AllByRecursion Q (turn next n o)
       go rest None e = tt
       go rest (Some c) e = let q = step s ts c e p in (q.0, rest c.separated c.left q.1)
 

@@ -3,7 +3,7 @@
 use Rattle.std.specs.Prelude.{◌≡◌, ℕ, ◌+◌, ◌<◌, ◌≤◌, Bool, true, false, cond, not, ◌&&◌, List, [], ◌∷◌, map, length, is_some, Some, None, Option, ◌==◌, nat_lt, slice_index, slice_index_or, refl}
 use Rattle.std.proofs.Common.{sym, ap, subst, ◌∙◌, ⊎_elim, arith, length-drop}
 use Rattle.std.specs.Option.{option_to_list}
-use Rattle.std.specs.List.{AllByRecursion as All}
+use Rattle.std.specs.List.{AllByRecursion}
 use Rattle.std.proofs.lemmas.Bool.{and_parts, cases_Bool, cond_both, cond-false, cond-true, eqb-true, false≢true, ltb-true, not-true}
 use Rattle.sheet.specs.Kinds.{word}
 use Rattle.sheet.specs.Left.{Left, left, left_at, behind_bytes, back_of, front_number, piece_of}
@@ -153,7 +153,7 @@ prefix_less sep v s ts c h = go (none ts) refl h
         subst (λ (x : Next). bound x.separated x.left < bound s ts) same (omega arith)
 
 -- the cell in front fits, and so does what it leaves
-prefix_fits : (sep : ℕ) (v : SheetView) (ts : List Left) → All (InsideLeft v) ts → Fits v (front_cell sep v ts).cell × All (InsideLeft v) (front_cell sep v ts).left
+prefix_fits : (sep : ℕ) (v : SheetView) (ts : List Left) → AllByRecursion (InsideLeft v) ts → Fits v (front_cell sep v ts).cell × AllByRecursion (InsideLeft v) (front_cell sep v ts).left
 prefix_fits sep v ts h = go (start_of sep ts) refl
   where
     first : ℕ
@@ -161,7 +161,7 @@ prefix_fits sep v ts h = go (start_of sep ts) refl
 
     go : (o : Option Started) → start_of sep ts ≡ o
         → Fits v (finish_prefix v (front_number (length v.tokens) ts) (head_by (front_number (length v.tokens) ts) ts o) (field (prefix_role sep) Plain (skip true (head_by (front_number (length v.tokens) ts) ts o).left))).cell
-        × All (InsideLeft v) (field (prefix_role sep) Plain (skip true (head_by (front_number (length v.tokens) ts) ts o).left)).left
+        × AllByRecursion (InsideLeft v) (field (prefix_role sep) Plain (skip true (head_by (front_number (length v.tokens) ts) ts o).left)).left
     go None e =
         let f = field_all v (prefix_role sep) Plain (skip true ts) (skip_all (InsideLeft v) true ts h) in
         (record { inside = pieces_all v _ (trim_all (InsideLeft v) _ f.0); columns = omega arith; rows = omega arith }, f.1)
@@ -171,15 +171,15 @@ prefix_fits sep v ts h = go (start_of sep ts) refl
         let w = start_spans sep ts s e in
         (record { inside = pieces_all v _ (trim_all (InsideLeft v) _ f.0); columns = w.0; rows = w.1 }, f.1)
 
-pub cells_fit : (sep : ℕ) (v : SheetView) (p : Position) → All (Fits v) (prefix_cells sep v p)
-cells_fit sep v p = cells_all (next_prefix sep v) (All (InsideLeft v)) (Fits v) step _ false (left v p.token p.offset) (left_all v p.token p.offset)
+pub cells_fit : (sep : ℕ) (v : SheetView) (p : Position) → AllByRecursion (Fits v) (prefix_cells sep v p)
+cells_fit sep v p = cells_all (next_prefix sep v) (AllByRecursion (InsideLeft v)) (Fits v) step _ false (left v p.token p.offset) (left_all v p.token p.offset)
   where
-    step : (s : Bool) (ts : List Left) (c : Next) → next_prefix sep v s ts ≡ Some c → All (InsideLeft v) ts → Fits v c.cell × All (InsideLeft v) c.left
+    step : (s : Bool) (ts : List Left) (c : Next) → next_prefix sep v s ts ≡ Some c → AllByRecursion (InsideLeft v) ts → Fits v c.cell × AllByRecursion (InsideLeft v) c.left
     step s ts c e h = go (none ts) e
       where
-        go : (b : Bool) → cond b None (Some (front_cell sep v ts)) ≡ Some c → Fits v c.cell × All (InsideLeft v) c.left
+        go : (b : Bool) → cond b None (Some (front_cell sep v ts)) ≡ Some c → Fits v c.cell × AllByRecursion (InsideLeft v) c.left
         go true q = let z : ◌≡◌ {A = ℕ} 0 1 = cc in absurd (omega arith)
-        go false q = let same : front_cell sep v ts ≡ c = cc in subst (λ (x : Next). Fits v x.cell × All (InsideLeft v) x.left) same (prefix_fits sep v ts h)
+        go false q = let same : front_cell sep v ts ≡ c = cc in subst (λ (x : Next). Fits v x.cell × AllByRecursion (InsideLeft v) x.left) same (prefix_fits sep v ts h)
 
 -- no token, no cell
 pub no_cells : (sep : ℕ) (v : SheetView) (p : Position) → left v p.token p.offset ≡ [] → prefix_cells sep v p ≡ []

@@ -2,7 +2,7 @@
 -- Assumes nothing.
 use Rattle.std.specs.Prelude.{◌≤◌, Bool, true, false, cond, List, [], ◌∷◌}
 use Rattle.std.proofs.Common.{arith}
-use Rattle.std.specs.List.{AllByRecursion as All}
+use Rattle.std.specs.List.{AllByRecursion}
 use Rattle.std.proofs.lemmas.Bool.{cond_both}
 use Rattle.sheet.specs.Left.{Left}
 use Rattle.cut.specs.Blanks.{is_skipped, skip}
@@ -19,11 +19,11 @@ skip_le s (t ∷ ts) = go (skip_le s ts) (is_skipped s t)
     go l true = omega arith
     go l false = omega arith
 
-pub skip_all : (P : Left → Type 0) (s : Bool) (ts : List Left) → All P ts → All P (skip s ts)
+pub skip_all : (P : Left → Type 0) (s : Bool) (ts : List Left) → AllByRecursion P ts → AllByRecursion P (skip s ts)
 skip_all P s [] h = h
 skip_all P s (t ∷ ts) h = go (is_skipped s t) (skip_all P s ts h.1)
   where
-    go : (b : Bool) → All P (skip s ts) → All P (cond b (skip s ts) (t ∷ ts))
+    go : (b : Bool) → AllByRecursion P (skip s ts) → AllByRecursion P (cond b (skip s ts) (t ∷ ts))
     go true k = k
     go false k = h
 
@@ -35,6 +35,6 @@ pub csv_less : (ts : List Left) → weight (csv_begin ts).left ≤ weight ts
 csv_less [] = omega arith
 csv_less (t ∷ ts) = let l = skip_le false ts in csv_left (λ us. weight us ≤ weight (t ∷ ts)) t ts (omega arith) (omega arith)
 
-pub csv_all : (P : Left → Type 0) (ts : List Left) → All P ts → All P (csv_begin ts).left
+pub csv_all : (P : Left → Type 0) (ts : List Left) → AllByRecursion P ts → AllByRecursion P (csv_begin ts).left
 csv_all P [] h = h
-csv_all P (t ∷ ts) h = csv_left (All P) t ts (skip_all P false ts h.1) h
+csv_all P (t ∷ ts) h = csv_left (AllByRecursion P) t ts (skip_all P false ts h.1) h

@@ -1,6 +1,6 @@
 // The cutter interface.
 ghost use Rattle.std.specs.Prelude.{List};
-ghost use Rattle.std.specs.List.{AllByRecursion as All};
+ghost use Rattle.std.specs.List.{AllByRecursion};
 ghost use Rattle.sheet.specs.View.{SheetView, view};
 ghost use Rattle.sheet.specs.declared.records.Position.{Position as Spot};
 ghost use Rattle.cut.specs.Raw.{RawCell};
@@ -30,7 +30,7 @@ pub trait Cutter {
     ) -> Result<Option<Cut>, CutRefusal>
         ensures { CutAnswer (cells self.now (view sheet.now)) (cells self.now (view sheet.now) at) pieces.old pieces.new notes.old notes.new result };
 
-    ghost fits: { (k : Self) (v : SheetView) (p : Spot) → All (Fits v) (cells k v p) };
+    ghost fits: { (k : Self) (v : SheetView) (p : Spot) → AllByRecursion (Fits v) (cells k v p) };
 
     ghost first: { (k : Self) (v : SheetView) (p : Spot) → FirstIs v p (cells k v p) };
 }

@@ -1,7 +1,7 @@
 // One cell read token by token: what a token can do in a cell, and the interface by which a format says it.
 ghost use Rattle.std.specs.Prelude.{◌≡◌, ◌+◌, ◌<◌, ◌≤◌, List, ◌∷◌, length};
 ghost use Rattle.sheet.specs.Limits.{max_tokens};
-ghost use Rattle.std.specs.List.{AllByRecursion as All};
+ghost use Rattle.std.specs.List.{AllByRecursion};
 ghost use Rattle.sheet.specs.View.{SheetView, view};
 ghost use Rattle.sheet.specs.Left.{Left as LeftToken, left, left_at, seen_at};
 ghost use Rattle.cut.specs.declared.machine.Role.{Role as RoleOf};
@@ -124,5 +124,5 @@ pub trait Opens {
 
     ghost less: { (k : Self) (ts : List LeftToken) → weight (begin k ts).left ≤ weight ts };
 
-    ghost inside: { (k : Self) (v : SheetView) (ts : List LeftToken) → All (InsideLeft v) ts → All (InsideLeft v) (begin k ts).left };
+    ghost inside: { (k : Self) (v : SheetView) (ts : List LeftToken) → AllByRecursion (InsideLeft v) ts → AllByRecursion (InsideLeft v) (begin k ts).left };
 }

@@ -1,6 +1,6 @@
 // The search for table blocks, line by line.
 ghost use Rattle.std.specs.Prelude.{◌≡◌, ◌+◌, ◌<◌, ◌≤◌, length, IfOk, MatchOption};
-ghost use Rattle.std.specs.List.{AllByRecursion as All};
+ghost use Rattle.std.specs.List.{AllByRecursion};
 ghost use Rattle.document.specs.Lines.{line_at, next_at};
 ghost use Rattle.document.specs.Marks.{kind_of};
 ghost use Rattle.document.specs.Blocks.{mark_of, Stands, Missing, Closes, table_of, Passes, Steps, Goes, Outlined, Framed};
@@ -178,7 +178,7 @@ fn step_from(text: &[u8], position: Position) -> Step
 /// Finds the tables of a document. Where a table block is never closed, the rest of the document belongs to it, and the
 /// search ends there. It fails for want of memory alone.
 pub fn find_tables(heap: Global, text: &[u8]) -> Result<Outline, AllocError>
-    ensures framed { IfOk result (λ o. All (Framed text.now) o.tables.items) }
+    ensures framed { IfOk result (λ o. AllByRecursion (Framed text.now) o.tables.items) }
     ensures outlined { IfOk result (λ o. Outlined text.now o.tables.items o.unclosed) }
 {
     let mut tables = Vec::new(heap);

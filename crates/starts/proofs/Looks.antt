@@ -1,6 +1,6 @@
 -- What one look at the token in front tells: a start, or none.
 -- Assumes nothing.
-use Rattle.std.proofs.Common.{◌≡◌, ℕ, ◌<◌, Bool, true, false, cond, not, ◌&&◌, ◌||◌, eqb, ltb, List, [], ◌∷◌, length, get_or, is_some as option_is_some, Some, None, Option, sym, refl, ap, ◌∙◌, subst, ⊎_elim, arith}
+use Rattle.std.proofs.Common.{◌≡◌, ℕ, ◌<◌, Bool, true, false, cond, not, ◌&&◌, ◌||◌, eqb, ltb, List, [], ◌∷◌, length, get_or, is_some, Some, None, Option, sym, refl, ap, ◌∙◌, subst, ⊎_elim, arith}
 use Rattle.std.proofs.lemmas.Bool.{cond-false, lt-ltb, eq-eqb, ne_eqb, and_cases, and_left, and_right, or_parts}
 use Rattle.sheet.specs.Kinds.{callout_number, caret, digits, dots, greater_than, less_than, word}
 use Rattle.sheet.specs.Left.{Left, left_at, behind_bytes}
@@ -96,7 +96,7 @@ no_start sep t ts s m =
     part false true w e = e
     part false false w e = refl
 
-    style : (r p w : Bool) (o : Option ℕ) → (not r && (p || (w && option_is_some o))) ≡ false → cond (not r && w) o None ≡ None
+    style : (r p w : Bool) (o : Option ℕ) → (not r && (p || (w && is_some o))) ≡ false → cond (not r && w) o None ≡ None
     style true p w o e = refl
     style false true w o e = let z : ◌≡◌ {A = ℕ} 0 1 = cc in absurd (omega arith)
     style false false false o e = refl
@@ -104,8 +104,8 @@ no_start sep t ts s m =
     style false false true (Some x) e = let z : ◌≡◌ {A = ℕ} 0 1 = cc in absurd (omega arith)
 
 -- the code's answers, where what is left is known
-pub is_none : (v : SheetView) (o : Option Started) → o ≡ None → StartIs v None o
-is_none v o e = subst (λ (x : Option Started). StartIs v None x) (sym e) tt
+pub start_is_none : (v : SheetView) (o : Option Started) → o ≡ None → StartIs v None o
+start_is_none v o e = subst (λ (x : Option Started). StartIs v None x) (sym e) tt
 
-pub is_some : (v : SheetView) (s : Start) (o : Option Started) (t : Started) → o ≡ Some t → s.specifier ≡ t.specifier → left_at v s.rest ≡ t.left → StartIs v (Some s) o
-is_some v s o t e a b = subst (λ (x : Option Started). StartIs v (Some s) x) (sym e) (a, b)
+pub start_is_some : (v : SheetView) (s : Start) (o : Option Started) (t : Started) → o ≡ Some t → s.specifier ≡ t.specifier → left_at v s.rest ≡ t.left → StartIs v (Some s) o
+start_is_some v s o t e a b = subst (λ (x : Option Started). StartIs v (Some s) x) (sym e) (a, b)

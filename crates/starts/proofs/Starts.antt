@@ -1,7 +1,7 @@
 -- What holds of every start: it takes something, it keeps what holds of the tokens, and its specifier is in bounds.
 -- Assumes nothing.
 use Rattle.std.proofs.Common.{◌≡◌, ℕ, zero, suc, ◌+◌, ◌<◌, ◌≤◌, Bool, true, false, cond, ◌&&◌, eqb, ltb, List, [], ◌∷◌, length, get_or, drop, Some, None, Option, sym, refl, ap, ◌∙◌, subst, arith}
-use Rattle.std.specs.List.{AllByRecursion as All}
+use Rattle.std.specs.List.{AllByRecursion}
 use Rattle.std.proofs.lemmas.List.{drop-drop, length-drop}
 use Rattle.std.proofs.lemmas.Bool.{and_parts, ltb-true}
 use Rattle.sheet.specs.Kinds.{word}
@@ -105,29 +105,29 @@ start_takes sep ts s h =
     ts s refl (λ b. bytes_lighter (has_byte sep 0) 0 ts b) h
 
 module _ (P : Left → Type 0) (kept : (t : Left) (n : ℕ) → P t → n < length t.bytes → P (back_of n t)) where
-  drop_keeps : (n : ℕ) (ts : List Left) → All P ts → All P (drop n ts)
+  drop_keeps : (n : ℕ) (ts : List Left) → AllByRecursion P ts → AllByRecursion P (drop n ts)
   drop_keeps zero ts h = h
   drop_keeps (suc n) [] h = h
   drop_keeps (suc n) (t ∷ ts) (a, b) = drop_keeps n ts b
 
-  token_keeps : (ts : List Left) → All P ts → All P (behind_token ts)
+  token_keeps : (ts : List Left) → AllByRecursion P ts → AllByRecursion P (behind_token ts)
   token_keeps [] h = h
   token_keeps (t ∷ ts) (a, b) = b
 
-  bytes_keeps : (n : ℕ) (ts : List Left) → All P ts → All P (behind_bytes n ts)
+  bytes_keeps : (n : ℕ) (ts : List Left) → AllByRecursion P ts → AllByRecursion P (behind_bytes n ts)
   bytes_keeps n [] h = h
   bytes_keeps n (t ∷ ts) (a, b) = go (ltb n (length t.bytes)) refl
     where
-      go : (x : Bool) → ltb n (length t.bytes) ≡ x → All P (cond x (back_of n t ∷ ts) ts)
+      go : (x : Bool) → ltb n (length t.bytes) ≡ x → AllByRecursion P (cond x (back_of n t ∷ ts) ts)
       go true e = (kept t n a (ltb-true n (length t.bytes) e), b)
       go false e = b
 
   -- What holds of each token, and of what is left of one behind dropped bytes, holds behind a start.
-  pub start_keeps : (sep : ℕ) (ts : List Left) (s : Started) → All P ts → start_of sep ts ≡ Some s → All P s.left
+  pub start_keeps : (sep : ℕ) (ts : List Left) (s : Started) → AllByRecursion P ts → start_of sep ts ≡ Some s → AllByRecursion P s.left
   start_keeps sep ts s all h =
       let d = parts_drop ts in
-      let l : All P (parts_of ts).left = subst (λ (x : List Left). All P x) (sym d.1) (drop_keeps d.0 ts all) in
-      one_of (λ x. All P x.left) sep (parts_of ts)
+      let l : AllByRecursion P (parts_of ts).left = subst (λ (x : List Left). AllByRecursion P x) (sym d.1) (drop_keeps d.0 ts all) in
+      one_of (λ x. AllByRecursion P x.left) sep (parts_of ts)
       (λ b. token_keeps (parts_of ts).left l)
       (λ n e b f. token_keeps (behind_token (parts_of ts).left) (token_keeps (parts_of ts).left l))
       (λ n e b. bytes_keeps 2 (parts_of ts).left l)

@@ -1,5 +1,5 @@
 use Rattle.std.proofs.Common.{◌≡◌, List, [], ◌∷◌, ◌++◌, vec_items, sym, refl, subst}
-use Rattle.std.specs.List.{AllByRecursion as All}
+use Rattle.std.specs.List.{AllByRecursion}
 use Rattle.std.proofs.ByRecursion.{All-push}
 use Rattle.std.proofs.lemmas.Slice.{pushed}
 use Rattle.document.specs.Blocks.{Framed, on}
@@ -12,7 +12,7 @@ loop-position-init c =
     let text = c.args.text.now in (
       stands_front text,
       begun_at text _ _ c.new-tables.ensures.items refl refl refl,
-      subst (λ (l : List table.Table). All (Framed text) l) (sym c.new-tables.ensures.items) tt,
+      subst (λ (l : List table.Table). AllByRecursion (Framed text) l) (sym c.new-tables.ensures.items) tt,
     )
 
 pub loop-position-preserved-in-On : goal.loop-position-preserved-in-On
@@ -32,6 +32,6 @@ loop-position-preserved c =
     pushed (t ∷ []) refl c.in_ok-push-in-Found.was c.push.ensures.items in (
       e.goes.1,
       found_at text c.loop-position.position c.in-Found.next t _ _ more inv.1 inside e.steps,
-      subst (λ (l : List table.Table). All (Framed text) l) (sym more)
+      subst (λ (l : List table.Table). AllByRecursion (Framed text) l) (sym more)
           (All-push (Framed text) (vec_items c.loop-position.tables) t inv.2 (framed text c.loop-position.position t c.in-Found.next inv.0 inside e.steps)),
     )

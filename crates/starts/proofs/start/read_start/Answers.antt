@@ -3,19 +3,19 @@ use Rattle.std.proofs.lemmas.Bool.{and_right}
 use Rattle.sheet.specs.Left.{behind_bytes, seen_at}
 use Rattle.sheet.specs.View.{view}
 use Rattle.starts.specs.Start.{start_of}
-use Rattle.starts.proofs.Looks.{starts_here, no_start, is_none, is_some}
+use Rattle.starts.proofs.Looks.{starts_here, no_start, start_is_none, start_is_some}
 use Rattle.starts.proofs.start.read_start.Goals as goal
 
 pub returns-then-first-separator : goal.returns-then-first-separator
 returns-then-first-separator c =
     let s = c.in-Some.ensures in
     let t = seen_at c.args.place c.in-Some.seen in
-    is_some (view c.args.sheet.now) _ _ _ (ap (start_of c.args.separator) s.0 ∙ starts_here c.args.separator t _ c.if-seen.false s.3 c.if-first-separator.true)
+    start_is_some (view c.args.sheet.now) _ _ _ (ap (start_of c.args.separator) s.0 ∙ starts_here c.args.separator t _ c.if-seen.false s.3 c.if-first-separator.true)
     refl (c.behind_bytes.ensures ∙ ap (behind_bytes 1) s.0)
 
 pub returns-then-not-may_start : goal.returns-then-not-may_start
 returns-then-not-may_start c =
     let s = c.in-Some.ensures in
     let t = seen_at c.args.place c.in-Some.seen in
-    is_none (view c.args.sheet.now) _
+    start_is_none (view c.args.sheet.now) _
     (ap (start_of c.args.separator) s.0 ∙ no_start c.args.separator t _ c.if-first-separator.false (and_right (not t.replaced) _ (sym c.if-not-may_start.ensures)))
