@@ -1,6 +1,6 @@
 -- Starts as the code tells them, and Prefix cells: each takes something, and what it takes lies inside tokens.
 -- Assumes nothing.
-use Rattle.std.specs.Prelude.{◌≡◌, ℕ, ◌+◌, ◌<◌, ◌≤◌, Bool, true, false, cond, not, ◌&&◌, List, [], ◌∷◌, map, length, is_some, Some, None, Option, ◌==◌, nat_lt, slice_index, slice_index_or, refl}
+use Rattle.std.specs.Prelude.{◌≡◌, ℕ, ◌+◌, ◌<◌, ◌≤◌, Bool, true, false, cond, not, ◌&&◌, List, [], ◌∷◌, map, length, is_some, Some, None, Option, ◌==◌, nat_lt, slice_index, refl}
 use Rattle.std.proofs.Common.{sym, ap, subst, ◌∙◌, ⊎_elim, arith, length-drop}
 use Rattle.std.specs.Option.{option_to_list}
 use Rattle.std.specs.List.{AllByRecursion}
@@ -100,7 +100,7 @@ split_some sep t ts no_start = by_separator sep (λ x. splits x t ≡ true → 0
     first (b ∷ bs) q r e =
         ⊎_elim
         (λ same.
-        let here : slice_index_or t.bytes 0 0 ≡ sep = sym (ap (λ (x : List ℕ). slice_index x 0) q) ∙ eqb-true b sep same in
+        let here : slice_index t.bytes 0 ≡ sep = sym (ap (λ (x : List ℕ). slice_index x 0) q) ∙ eqb-true b sep same in
         let some : 0 < length t.bytes = let l = ap length q in omega arith in
         let z : ◌≡◌ {A = ℕ} 0 1 = let s = starts_here sep t ts r some here in cc in
         absurd (omega arith))

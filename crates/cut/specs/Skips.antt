@@ -7,6 +7,7 @@ use Rattle.std.proofs.lemmas.Bool.{cond_both}
 use Rattle.sheet.specs.Left.{Left}
 use Rattle.cut.specs.Blanks.{is_skipped, skip}
 use Rattle.cut.specs.Csv.{csv_begin}
+use Rattle.cut.specs.Dsv.{dsv_begin}
 use Rattle.cut.specs.Fields.{Begin}
 use Rattle.starts.specs.Weight.{weight}
 use Rattle.cut.specs.Separators.{quotes}
@@ -38,3 +39,10 @@ csv_less (t ∷ ts) = let l = skip_le false ts in csv_left (λ us. weight us ≤
 pub csv_all : (P : Left → Type 0) (ts : List Left) → AllByRecursion P ts → AllByRecursion P (csv_begin ts).left
 csv_all P [] h = h
 csv_all P (t ∷ ts) h = csv_left (AllByRecursion P) t ts (skip_all P false ts h.1) h
+
+-- a DSV field begins at what is left
+pub dsv_less : (ts : List Left) → weight (dsv_begin ts).left ≤ weight ts
+dsv_less ts = omega arith
+
+pub dsv_all : (P : Left → Type 0) (ts : List Left) → AllByRecursion P ts → AllByRecursion P (dsv_begin ts).left
+dsv_all P ts h = h

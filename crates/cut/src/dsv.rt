@@ -5,7 +5,8 @@ ghost use Rattle.cut.specs.Dsv.{dsv_plain, dsv_role, dsv_begin};
 ghost use Rattle.cut.specs.Fields.{fields};
 ghost use Rattle.cut.specs.Separators.{is_separator, separator_of};
 ghost use Rattle.cut.specs.Within.{Within};
-ghost use Rattle.std.proofs.Common.{rules, arith};
+ghost use Rattle.cut.specs.Skips.{dsv_less, dsv_all};
+ghost use Rattle.cut.specs.Insides.{InsideLeft};
 ghost use Rattle.cut.specs.Cuts.{fields_fit, first_is};
 ghost use Rattle.cut.specs.Formats.{dsv_moves};
 
@@ -72,9 +73,9 @@ impl Format for Dsv {
 impl Opens for Dsv {
     ghost begin = { λ _. dsv_begin };
 
-    ghost less = { Prim.search rules };
+    ghost less = { λ k ts. dsv_less ts };
 
-    ghost inside = { Prim.search rules };
+    ghost inside = { λ k v ts h. dsv_all (InsideLeft v) ts h };
 
     fn open_field(&self, _sheet: &Sheet<'_>, place: Place) -> Opening {
         Opening {
@@ -88,9 +89,9 @@ impl Opens for Dsv {
 impl Cutter for Dsv {
     ghost cells = { λ k. fields (dsv_role k.separator) dsv_begin };
 
-    ghost fits = { λ k v p. fields_fit (dsv_role k.separator) (dsv_moves k.separator) dsv_begin (λ ts. omega arith) v (λ ts h. h) p };
+    ghost fits = { λ k v p. fields_fit (dsv_role k.separator) (dsv_moves k.separator) dsv_begin dsv_less v (λ ts h. dsv_all (InsideLeft v) ts h) p };
 
-    ghost first = { λ k v p. first_is (dsv_role k.separator) (dsv_moves k.separator) dsv_begin (λ ts. omega arith) v p };
+    ghost first = { λ k v p. first_is (dsv_role k.separator) (dsv_moves k.separator) dsv_begin dsv_less v p };
 
     fn cut(
         &self,

@@ -1,5 +1,5 @@
 // Reading one cell in any format: where it ends, its pieces, its notes.
-ghost use Rattle.std.specs.Prelude.{◌≡◌, ◌+◌, ◌-◌, ◌<◌, ◌≤◌, true, false, ◌||◌, map, length, take, if◌then◌else◌, Ok, Err, ◌==◌, nat_eq};
+ghost use Rattle.std.specs.Prelude.{◌≡◌, ◌+◌, ◌-◌, ◌<◌, ◌≤◌, true, false, ◌||◌, map, length, take, if◌then◌else◌, Ok, Err, ◌==◌};
 ghost use Rattle.store.specs.Changes.{Same, Added};
 ghost use Rattle.store.specs.Entries.{entries, room};
 ghost use Rattle.sheet.specs.Kinds.{newline, whitespace};
@@ -72,7 +72,7 @@ fn tail_with(tail: Tail, kind: u8) -> Tail
 /// How many pieces are finished once one more has passed: a blank is, only if something follows.
 fn finished_with(kind: u8, passed: usize, finished: usize) -> usize
     requires { passed < max_tokens }
-    ensures { result ≡ (if nat_eq kind whitespace || kind == newline then finished else passed + 1) }
+    ensures { result ≡ (if kind == whitespace || kind == newline then finished else passed + 1) }
 {
     if is_blank(kind) { finished } else { passed + 1 }
 }

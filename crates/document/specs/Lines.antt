@@ -1,7 +1,7 @@
 -- The lines of a text: where one ends, where the next begins, and what is read of one.
 -- A text is a list of bytes. A line ends at a line feed, 10, or at the text's end.
 -- Assumes nothing.
-use Rattle.std.specs.Prelude.{ℕ, ◌+◌, min, not, List, length, take, drop, count_by, ◌==◌, nat_eq}
+use Rattle.std.specs.Prelude.{ℕ, ◌+◌, min, not, List, length, take, drop, count_by, ◌==◌}
 use Rattle.std.specs.List.{suffix_len}
 use Rattle.document.specs.Bytes.{before, trim_end}
 
@@ -19,7 +19,7 @@ next_at text start = min (start + size_at text start + 1) (length text)
 
 -- how many line feeds there are
 abbrev pub feeds : List ℕ → ℕ
-feeds xs = count_by (λ x. nat_eq x 10) xs
+feeds xs = count_by (λ x. x == 10) xs
 
 -- how many bytes stand behind the last line feed
 abbrev pub behind_feed : List ℕ → ℕ
