@@ -13,6 +13,7 @@ pub mod Csv
 pub mod Prefix
 pub mod Answer
 pub mod Pages
+-- lemmas that prove the laws of the cutters, with words that only proofs use
 pub mod Skips
 pub mod Cuts
 pub mod FieldsLess
