@@ -1,10 +1,11 @@
 -- What is added to a list as far as it fits.
 -- Assumes nothing.
-use Rattle.std.proofs.Common.{◌≡◌, ℕ, zero, suc, ◌-◌, ◌<◌, List, [], ◌∷◌, ◌++◌, length, take, sym, refl, ap, ◌∙◌, append_assoc, append-nil, arith}
+use Rattle.std.proofs.Common.{◌≡◌, ℕ, zero, suc, ◌-◌, List, [], ◌∷◌, ◌++◌, length, take, sym, refl, ap, ◌∙◌, append_assoc, append-nil, arith}
 use Rattle.std.proofs.lemmas.List.{take_all, length-append}
 use Rattle.store.specs.Changes.{Same, Added}
 use Rattle.store.specs.Entries.{entries, room}
 use Rattle.store.specs.declared.list.Store.{Store}
+use Rattle.cut.specs.Fitting.{AddedAsFit}
 
 pub unchanged : {A : Type 0} (s : Store A) → Same s s
 unchanged s = record { entries = refl; room = refl }
@@ -12,17 +13,6 @@ unchanged s = record { entries = refl; room = refl }
 -- nothing to add
 pub added_none : {A : Type 0} (n : ℕ) (s : Store A) → Added s s (take n [])
 added_none {A = A} n s = record { entries = sym (ap (λ (x : List A). entries s ++ x) (take_all n [] (omega arith)) ∙ append-nil (entries s)); room = refl }
-
--- no room
-pub added_full : {A : Type 0} (s t : Store A) (xs : List A) → length (entries s) ≡ room s → entries t ≡ entries s → room t ≡ room s → Added s t (take (room s - length (entries s)) xs)
-added_full {A = A} s t xs l e r =
-    let n : room s - length (entries s) ≡ 0 = omega arith in
-    record { entries = e ∙ sym (ap (λ (k : ℕ). entries s ++ take k xs) n ∙ append-nil (entries s)); room = r }
-
--- one more, with room for it
-pub added_one : {A : Type 0} (s t : Store A) (x : A) → length (entries s) < room s → entries t ≡ entries s ++ x ∷ [] → room t ≡ room s → Added s t (take (room s - length (entries s)) (x ∷ []))
-added_one {A = A} s t x l e r =
-    record { entries = e ∙ ap (λ (ys : List A). entries s ++ ys) (sym (take_all (room s - length (entries s)) (x ∷ []) (omega arith))); room = r }
 
 -- what fits of two lists: what fits of the first, then of the second
 take_two : {A : Type 0} (n : ℕ) (xs ys : List A) → take n (xs ++ ys) ≡ take n xs ++ take (n - length (take n xs)) ys
@@ -34,8 +24,7 @@ take_two {A = A} (suc n) (x ∷ xs) ys =
     ap (λ (zs : List A). x ∷ zs) (take_two n xs ys ∙ ap (λ (k : ℕ). take n xs ++ take k ys) e)
 
 -- what fits of one list and then of another is what fits of both
-pub added_two : {A : Type 0} (s t u : Store A) (xs ys : List A) → Added s t (take (room s - length (entries s)) xs) → Added t u (take (room t - length (entries t)) ys)
-    → Added s u (take (room s - length (entries s)) (xs ++ ys))
+pub added_two : {A : Type 0} (s t u : Store A) (xs ys : List A) → AddedAsFit s t xs → AddedAsFit t u ys → AddedAsFit s u (xs ++ ys)
 added_two {A = A} s t u xs ys a b =
     let n = room s - length (entries s) in
     let l = ap length a.entries ∙ length-append (entries s) (take (room s - length (entries s)) xs) in

@@ -1,13 +1,10 @@
 -- Writing pieces: what is written and what is still wanted stay the same together.
 -- Assumes nothing.
-use Rattle.std.proofs.Common.{◌≡◌, ℕ, suc, ◌+◌, ◌-◌, ◌<◌, ◌≤◌, Bool, List, [], ◌∷◌, ◌++◌, map, length, take, sym, refl, ap, ◌∙◌, append_assoc, append-nil, arith}
-use Rattle.std.proofs.lemmas.List.{take_all, take-append-le, length_push, length-take}
+use Rattle.std.proofs.Common.{◌≡◌, ℕ, suc, ◌+◌, ◌-◌, ◌<◌, ◌≤◌, Bool, List, [], ◌∷◌, ◌++◌, map, length, take, sym, ap, ◌∙◌, append_assoc, arith}
+use Rattle.std.proofs.lemmas.List.{take-append-le, length_push, length-take}
 use Rattle.sheet.specs.Left.{Left, piece_of}
 use Rattle.sheet.specs.declared.records.Piece.{Piece}
-use Rattle.cut.specs.Field.{Field, field, more}
-use Rattle.cut.specs.declared.machine.Role.{Role}
-use Rattle.cut.specs.declared.machine.State.{State}
-use Rattle.cut.specs.Scans.{by_role, field_at}
+use Rattle.cut.specs.Field.{Field, more}
 
 -- e and what is still wanted of the field f are e0 and what was wanted of f0
 pub record Fills (e e0 : List Piece) (r r0 w w0 : ℕ) (f f0 : Field) : Type 0 where
@@ -15,9 +12,6 @@ pub record Fills (e e0 : List Piece) (r r0 w w0 : ℕ) (f f0 : Field) : Type 0 w
   pub room : r ≡ r0
   pub front : take (length e0) e ≡ e0
   pub size : length e + w ≡ length e0 + w0
-
-pub fills_start : (e : List Piece) (r w : ℕ) (f : Field) → Fills e e r r w w f f
-fills_start e r w f = record { all = refl; room = refl; front = take_all (length e) e (omega arith); size = refl }
 
 take_cons : {X : Type 0} (w : ℕ) (x : X) (xs : List X) → 0 < w → take w (x ∷ xs) ≡ x ∷ take (w - 1) xs
 take_cons w x xs h = let e : w ≡ suc (w - 1) = omega arith in ap (λ (k : ℕ). take k (x ∷ xs)) e
@@ -41,18 +35,3 @@ module _ (e e0 : List Piece) (r r0 w w0 : ℕ) (f0 : Field) where
         front = ap (take (length e0)) s ∙ take-append-le (length e0) e (p ∷ []) fits ∙ h.front;
         size = let hs = h.size in omega arith;
       }
-
-  pub fills_none : (f : Field) → f.texts ≡ [] → Fills e e0 r r0 w w0 f f0 → e ≡ e0 ++ map piece_of (take w0 f0.texts)
-  fills_none f z h = sym (ap (λ (x : List Left). e ++ map piece_of x) (ap (take w) z ∙ take_all w [] (omega arith)) ∙ append-nil e) ∙ h.all
-
-  pub fills_all : (f : Field) → w ≡ 0 → Fills e e0 r r0 w w0 f f0 → e ≡ e0 ++ map piece_of (take w0 f0.texts)
-  fills_all f z h = sym (ap (λ (n : ℕ). e ++ map piece_of (take n f.texts)) z ∙ append-nil e) ∙ h.all
-
-  pub fills_over : (f : Field) → 0 < w → length e ≡ r → Fills e e0 r r0 w w0 f f0 → r0 < length e0 + w0
-  fills_over f l q h = let s = h.size in let m = h.room in omega arith
-
--- at a token that closes the cell, no more is wanted
-pub fills_closed : (role : State → List Left → Role) (s : State) (xs ts : List Left) (t : Left) (how : Role) (e e0 : List Piece) (r r0 w w0 : ℕ) (f0 : Field)
-    → xs ≡ t ∷ ts → how ≡ role s xs → (by_role role t ts how).texts ≡ [] → Fills e e0 r r0 w w0 (field role s xs) f0 → e ≡ e0 ++ map piece_of (take w0 f0.texts)
-fills_closed role s xs ts t how e e0 r r0 w w0 f0 q h z fills =
-    fills_none e e0 r r0 w w0 f0 (by_role role t ts how) z (fills_at e e0 r r0 w w0 f0 (field role s xs) (by_role role t ts how) (field_at role s xs ts t how q h) fills)

@@ -1,13 +1,10 @@
 -- Writing notes: those written and those that still fit stay the same together.
 -- Assumes nothing.
-use Rattle.std.proofs.Common.{◌≡◌, ℕ, suc, ◌+◌, ◌-◌, ◌<◌, List, [], ◌∷◌, ◌++◌, map, length, take, sym, ap, ◌∙◌, append_assoc, append-nil, arith}
-use Rattle.std.proofs.lemmas.List.{take_all, length_push}
+use Rattle.std.proofs.Common.{◌≡◌, ℕ, suc, ◌+◌, ◌-◌, ◌<◌, List, [], ◌∷◌, ◌++◌, map, length, take, sym, ap, ◌∙◌, append_assoc, arith}
+use Rattle.std.proofs.lemmas.List.{length_push}
 use Rattle.sheet.specs.Left.{Left}
 use Rattle.cut.specs.declared.types.Note.{Note}
-use Rattle.cut.specs.Field.{Field, field, noted}
-use Rattle.cut.specs.declared.machine.Role.{Role}
-use Rattle.cut.specs.declared.machine.State.{State}
-use Rattle.cut.specs.Scans.{by_role, field_at}
+use Rattle.cut.specs.Field.{Field, noted}
 use Rattle.cut.specs.Scanned.{note_at}
 
 -- e and the notes of the field f that still fit are e0 and those of f0 that fit
@@ -19,12 +16,6 @@ module _ (k : ℕ) (e e0 : List Note) (r r0 : ℕ) (f0 : Field) where
   pub notes_at : (f g : Field) → f ≡ g → Noting k e e0 r r0 f f0 → Noting k e e0 r r0 g f0
   notes_at f g q h = record { all = sym (ap (λ (x : Field). e ++ take (r - length e) (map (note_at k) x.notes)) q) ∙ h.all; room = h.room }
 
-  pub notes_done : (f : Field) → f.notes ≡ [] → Noting k e e0 r r0 f f0 → e ≡ e0 ++ take (r0 - length e0) (map (note_at k) f0.notes)
-  notes_done f z h = sym (ap (λ (x : List ℕ). e ++ take (r - length e) (map (note_at k) x)) z ∙ ap (λ (x : List Note). e ++ x) (take_all (r - length e) [] (omega arith)) ∙ append-nil e) ∙ h.all
-
-  pub notes_full : (f : Field) → length e ≡ r → Noting k e e0 r r0 f f0 → e ≡ e0 ++ take (r0 - length e0) (map (note_at k) f0.notes)
-  notes_full f z h = let n : r - length e ≡ 0 = omega arith in sym (ap (λ (j : ℕ). e ++ take j (map (note_at k) f.notes)) n ∙ append-nil e) ∙ h.all
-
   pub notes_more : (t : Left) (f : Field) (e' : List Note) (r' : ℕ) → length e < r → e' ≡ e ++ note_at k t.number ∷ [] → r' ≡ r → Noting k e e0 r r0 (noted t f) f0 → Noting k e' e0 r' r0 f f0
   notes_more t f e' r' l s z h =
       let p : length e' ≡ length e + 1 = ap length s ∙ length_push e (note_at k t.number) in
@@ -35,9 +26,3 @@ module _ (k : ℕ) (e e0 : List Note) (r r0 : ℕ) (f0 : Field) where
             ∙ sym (ap (λ (j : ℕ). e ++ take j (map (note_at k) (t.number ∷ f.notes))) n) ∙ h.all;
         room = z ∙ h.room;
       }
-
--- at a token that closes the cell, no more note comes
-pub notes_closed : (role : State → List Left → Role) (s : State) (xs ts : List Left) (t : Left) (how : Role) (k : ℕ) (e e0 : List Note) (r r0 : ℕ) (f0 : Field)
-    → xs ≡ t ∷ ts → how ≡ role s xs → (by_role role t ts how).notes ≡ [] → Noting k e e0 r r0 (field role s xs) f0 → e ≡ e0 ++ take (r0 - length e0) (map (note_at k) f0.notes)
-notes_closed role s xs ts t how k e e0 r r0 f0 q h z noting =
-    notes_done k e e0 r r0 f0 (by_role role t ts how) z (notes_at k e e0 r r0 f0 (field role s xs) (by_role role t ts how) (field_at role s xs ts t how q h) noting)

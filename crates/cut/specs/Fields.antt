@@ -3,8 +3,8 @@
 use Rattle.std.specs.Prelude.{◌≡◌, ℕ, ◌+◌, Bool, true, false, cond, not, ◌&&◌, ◌||◌, List, ◌++◌, map, length, Some, None, Option}
 use Rattle.std.specs.Option.{option_to_list}
 use Rattle.sheet.specs.Left.{Left, left, left_at, piece_of, front_number}
+use Rattle.sheet.specs.Places.{position_at}
 use Rattle.sheet.specs.View.{SheetView}
-use Rattle.sheet.specs.declared.records.Place.{Place}
 use Rattle.sheet.specs.declared.records.Position.{Position}
 use Rattle.starts.specs.Start.{nothing_written}
 use Rattle.cut.specs.Blanks.{skip, skips_newline, newline_next, none, trim}
@@ -85,10 +85,6 @@ next_field role begin count separated ts = cond (no_field separated ts) None (So
 abbrev pub fields : (State → List Left → Role) → (List Left → Begin) → SheetView → Position → List RawCell
 fields role begin v p = cells_of (next_field role begin (length v.tokens)) p.separated (left v p.token p.offset)
 
--- the position behind a field
-abbrev pub position_of : Place → Bool → Position
-position_of p separated = record { token = p.token; offset = p.offset; separated = separated }
-
 -- the first note of a field: that of the first quote dropped outside, else that of its opening quote
 abbrev pub first_note : Option ℕ → Option Note → Option Note
 first_note (Some i) o = Some (note_at 3 i)
@@ -103,4 +99,4 @@ pub record ToldField (v : SheetView) (first : ℕ) (skipped : Bool) (quote : Opt
   pub blank_inside : cut.blank_inside ≡ false
   pub notes : cut.notes ≡ found.notes + length (option_to_list (open_note quote found.unclosed))
   pub head_note : cut.first_note ≡ first_note found.noted (open_note quote found.unclosed)
-  pub rest : cut.rest ≡ position_of found.rest (at_mark found.close)
+  pub rest : cut.rest ≡ position_at found.rest (at_mark found.close)

@@ -3,8 +3,11 @@ pub mod Separators
 pub mod Field
 pub mod BlankLine
 pub mod Within
+pub mod Fitting
+pub mod Readers
 pub mod Moves
 pub mod Scanned
+pub mod Notes
 pub mod Raw
 pub mod Insides
 pub mod Fields

@@ -3,6 +3,7 @@
 use Rattle.std.specs.Prelude.{◌≡◌, ℕ, Bool, true, false, cond, not, ◌&&◌, List, [], ◌∷◌, map, length, is_some, Some, None, Option}
 use Rattle.std.specs.Option.{option_to_list}
 use Rattle.sheet.specs.Left.{Left, left, left_at, piece_of, front_number}
+use Rattle.sheet.specs.Places.{position_at}
 use Rattle.sheet.specs.View.{SheetView}
 use Rattle.sheet.specs.declared.records.Position.{Position}
 use Rattle.starts.specs.Start.{Started, nothing_written, start_of}
@@ -10,7 +11,6 @@ use Rattle.starts.specs.declared.specifier.Specifier.{Specifier}
 use Rattle.cut.specs.BlankLine.{two_newlines}
 use Rattle.cut.specs.Blanks.{is_newline, skip, none, trim}
 use Rattle.cut.specs.Field.{Field, field, is_escaped, removed, begins_blank}
-use Rattle.cut.specs.Fields.{position_of}
 use Rattle.cut.specs.Raw.{RawCell, Next, cells_of}
 use Rattle.cut.specs.Scanned.{note_at}
 use Rattle.cut.specs.Separators.{escapes, separator_of, splits, split_at}
@@ -102,4 +102,4 @@ pub record ToldCell (first : ℕ) (head : Reading) (found : Found) (inside : Boo
   pub blank_inside : cut.blank_inside ≡ inside
   pub notes : cut.notes ≡ length (option_to_list head.note)
   pub head_note : cut.first_note ≡ head.note
-  pub rest : cut.rest ≡ position_of found.rest false
+  pub rest : cut.rest ≡ position_at found.rest false

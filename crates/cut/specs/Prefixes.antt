@@ -6,11 +6,11 @@ use Rattle.std.specs.Option.{option_to_list}
 use Rattle.std.specs.List.{AllByRecursion}
 use Rattle.std.proofs.lemmas.Bool.{and_parts, cases_Bool, cond_both, cond-false, cond-true, eqb-true, false≢true, ltb-true, not-true}
 use Rattle.sheet.specs.Kinds.{word}
-use Rattle.sheet.specs.Left.{Left, left, left_at, behind_bytes, back_of, front_number, piece_of}
+use Rattle.sheet.specs.Left.{Left, left, left_at, behind_bytes, back_of, front_number, piece_of, plain}
 use Rattle.sheet.specs.View.{SheetView}
+use Rattle.sheet.specs.declared.kind.Kind.{Kind as TokenKind}
 use Rattle.sheet.specs.declared.records.Place.{Place}
 use Rattle.sheet.specs.declared.records.Position.{Position}
-use Rattle.starts.specs.Fronts.{plain}
 use Rattle.starts.specs.Start.{Started, StartIs, nothing_written, start_of}
 use Rattle.starts.specs.Weight.{weight}
 use Rattle.starts.specs.declared.specifier.Start.{Start}
@@ -86,7 +86,7 @@ field_le role s (t ∷ ts) = go (λ s'. field_le role s' ts) (role s (t ∷ ts))
     go rest Notes = let l = rest Plain in omega arith
 
 -- what holds of the tokens of any kind and of the byte itself holds of its separator
-by_separator : (sep : ℕ) (P : Separator → Type 0) → ((k : ℕ) → P (Kind k)) → P (Byte sep) → P (separator_of sep)
+by_separator : (sep : ℕ) (P : Separator → Type 0) → ((k : TokenKind) → P (Kind k)) → P (Byte sep) → P (separator_of sep)
 by_separator sep P kinds byte =
     cond_both (sep == 58) _ _ P (λ e. kinds _)
     (λ e. cond_both (sep == 59) _ _ P (λ e. kinds _) (λ e. cond_both (sep == 124) _ _ P (λ e. kinds _) (λ e. cond_both (sep == 44) _ _ P (λ e. kinds _) (λ e. byte))))

@@ -5,8 +5,6 @@ use Rattle.sheet.specs.Kinds.{newline, whitespace}
 use Rattle.sheet.specs.Left.{left_at}
 use Rattle.sheet.specs.Limits.{max_tokens}
 use Rattle.sheet.specs.View.{SheetView}
-use Rattle.sheet.specs.declared.records.Piece.{Piece}
-use Rattle.sheet.specs.declared.records.Place.{Place}
 use Rattle.cut.specs.Blanks.{trim}
 use Rattle.cut.specs.Field.{Field, removed, begins_blank}
 use Rattle.cut.specs.declared.machine.Tail.{Tail}
@@ -57,10 +55,6 @@ is_two Nothing = false
 is_two Newline = false
 is_two Blank = true
 is_two Other = false
-
--- so many bytes from a place on
-abbrev pub piece_from : Place → ℕ → Piece
-piece_from p n = record { token = p.token; offset = p.offset; length = n }
 
 abbrev pub note_at : ℕ → ℕ → Note
 note_at number token = record { number = number; token = token }

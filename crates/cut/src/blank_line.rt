@@ -12,6 +12,7 @@ pub fn has_blank_line(sheet: &Sheet<'_>, pieces: &[Piece]) -> bool
     if pieces.len() < 2 {
         return false;
     }
+    // A search with a labelled `continue`, and no iterator chain: the project asks for this form here.
     'pairs: for i in 0..pieces.len() - 1 {
         for k in 0..2 {
             if !sheet.is_newline(pieces[i + k]) {

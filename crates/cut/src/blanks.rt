@@ -1,25 +1,28 @@
 // Blanks: what is skipped before a cell.
 ghost use Rattle.std.specs.Prelude.{◌≡◌, ◌||◌, ◌==◌};
-ghost use Rattle.sheet.specs.Kinds.{newline, whitespace};
+ghost use Rattle.sheet.specs.Kinds.{newline, number_of, whitespace};
 ghost use Rattle.sheet.specs.View.{view};
 ghost use Rattle.sheet.specs.Left.{left_at};
 ghost use Rattle.cut.specs.Blanks.{skip, skips_newline, newline_next, none};
 
-use sheet::{Place, Sheet, kind};
+use sheet::{Kind, Place, Sheet};
 
 /// Whether a token of this kind is blank.
-pub fn is_blank(kind: u8) -> bool
-    ensures { result ≡ (kind == whitespace || kind == newline) }
+pub fn is_blank(kind: Kind) -> bool
+    ensures { result ≡ (number_of kind == whitespace || number_of kind == newline) }
 {
-    kind == kind::WHITESPACE || kind == kind::NEWLINE
+    matches!(kind, Kind::Whitespace | Kind::Newline)
 }
 
 /// A place behind what was skipped, and whether a Newline was.
-#[derive(Clone, Copy)]
+#[derive(Clone, Copy, Debug, PartialEq, Eq, Hash)]
 pub struct Skipped {
     pub place: Place,
     pub line: bool,
 }
+
+// A sheet and a place go side by side, and so do a sheet and what is seen on it: the place is another one at nearly
+// every call, so that a struct of the two would be made for each.
 
 /// Past what is skipped before a cell.
 pub fn skip_blanks(sheet: &Sheet<'_>, from: Place, separated: bool) -> Skipped
@@ -28,44 +31,29 @@ pub fn skip_blanks(sheet: &Sheet<'_>, from: Place, separated: bool) -> Skipped
 {
     let mut place = from;
     let mut line = false;
-    'blanks: loop {
-        let Some(seen) = sheet.see(place) else {
-            return Skipped { place, line };
-        };
-        if seen.kind == kind::NEWLINE && !separated {
-            line = true;
-            place = Place {
-                token: place.token + 1,
-                offset: 0,
-            };
-            continue 'blanks;
+    'blanks: while let Some(seen) = sheet.see(place) {
+        match seen.kind {
+            Kind::Newline if !separated => line = true,
+            Kind::Whitespace => {}
+            _ => break,
         }
-        if seen.kind != kind::WHITESPACE {
-            return Skipped { place, line };
-        }
-        place = Place {
-            token: place.token + 1,
-            offset: 0,
-        };
+        place = seen.behind();
     }
+    Skipped { place, line }
 }
 
 /// Whether no token is left.
 pub fn is_end(sheet: &Sheet<'_>, place: Place) -> bool
     ensures { result ≡ none (left_at (view sheet.now) place) }
 {
-    let Some(_) = sheet.see(place) else {
-        return true;
-    };
-    false
+    sheet.see(place).is_none()
 }
 
 /// Whether the very next token is a Newline.
 pub fn newline_next(sheet: &Sheet<'_>, place: Place) -> bool
     ensures { result ≡ newline_next (left_at (view sheet.now) place) }
 {
-    let Some(seen) = sheet.see(place) else {
-        return false;
-    };
-    seen.kind == kind::NEWLINE
+    sheet
+        .see(place)
+        .is_some_and(|seen| seen.kind == Kind::Newline)
 }

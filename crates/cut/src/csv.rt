@@ -1,170 +1,122 @@
 // CSV cells.
-ghost use Rattle.std.specs.Prelude.{◌≡◌, ◌+◌, ◌<◌, true, false, ◌&&◌, length, Ok, Err};
+ghost use Rattle.std.specs.Prelude.{◌≡◌, ◌+◌, ◌<◌, true, false, ◌&&◌, IfOk, IfErr, MatchResult};
 ghost use Rattle.sheet.specs.Left.{left, left_at, seen_at};
 ghost use Rattle.sheet.specs.Limits.{max_tokens};
 ghost use Rattle.sheet.specs.View.{view};
+ghost use Rattle.cut.specs.Answer.{cutter_told};
 ghost use Rattle.cut.specs.Csv.{csv_plain, csv_at, csv_role, csv_begin, quote_next};
-ghost use Rattle.cut.specs.Fields.{fields};
 ghost use Rattle.cut.specs.Separators.{is_separator, quotes, separator_of};
-ghost use Rattle.cut.specs.Within.{Within};
 ghost use Rattle.cut.specs.Skips.{csv_less, csv_all};
 ghost use Rattle.cut.specs.Insides.{InsideLeft};
-ghost use Rattle.cut.specs.Cuts.{fields_fit, first_is};
 ghost use Rattle.cut.specs.Formats.{csv_moves};
 
 use crate::blanks::skip_blanks;
-use crate::cutter::Cutter;
-use crate::fields::cut_field;
-use crate::machine::{Format, Opening, Opens, Role, State, is_doubled, is_inside};
-use crate::separator::{is_plain, is_separator, is_separator_byte, separator_of, split_role};
-use crate::types::{Cut, CutRefusal, CutterRefusal, Note, Separator};
-use sheet::{Piece, Place, Position, Seen, Sheet, kind};
-use store::Store;
+use crate::machine::{Format, Opening, Opens, Role, State};
+use crate::types::{CutterRefusal, Separator};
+use sheet::{Kind, Place, Seen, Sheet};
 
 /// The cutter of comma-separated values: a field may stand in double quotes.
-#[derive(Clone, Copy)]
+#[derive(Clone, Copy, Debug, PartialEq, Eq, Hash)]
 pub struct Csv {
     separator: Separator,
 }
 
 impl Csv {
+    // CSV, DSV and Prefix each have a `new` of one line: one for all would need a type parameter in their names.
+
     /// A cutter with this separator; refused 2 unless it is a printable byte from `!` to `~` other than `"` and `\`.
     pub fn new(separator: u8) -> Result<Csv, CutterRefusal>
-        ensures { elim result [
-          | Ok k ↦ (is_separator separator ≡ true) × (k.separator ≡ separator_of separator)
-          | Err _ ↦ is_separator separator ≡ false
-        ] }
+        ensures allowed { MatchResult result (λ _. is_separator separator ≡ true) (λ _. is_separator separator ≡ false) }
+        ensures separator { IfOk result (λ k. k.separator ≡ separator_of separator) }
+        ensures refused { IfErr result (λ e. (cutter_told e).number ≡ 2) }
     {
-        if !is_separator_byte(separator) {
-            return Err(CutterRefusal::BadSeparator);
-        }
         Ok(Csv {
-            separator: separator_of(separator),
+            separator: Separator::try_from(separator)?,
         })
     }
 }
 
-/// What a token does outside quotes, if it is no quote.
-fn plain_role(separator: Separator, place: Place, seen: Seen<'_>) -> Role
-    requires { 0 < length seen.bytes.now }
-    ensures value { result ≡ csv_plain separator (seen_at place seen.entry) }
-    ensures within { Within result (length seen.entry.bytes.now) }
-{
-    if seen.kind == kind::NEWLINE {
-        return Role::EndsLine;
-    }
-    if is_separator(separator, place, seen) {
-        return Role::Separates;
-    }
-    split_role(separator, place, seen)
-}
-
-/// What a token does, inside quotes or not, by whether a quote follows it.
-fn role_at(separator: Separator, inside: bool, next: bool, place: Place, seen: Seen<'_>) -> Role
-    requires { 0 < length seen.bytes.now }
-    ensures value { result ≡ csv_at separator inside next (seen_at place seen.entry) }
-    ensures within { Within result (length seen.entry.bytes.now) }
-{
-    match seen.kind {
-        kind::DOUBLE_QUOTE if !seen.replaced && inside && next => Role::Drops(State::Doubled),
-        kind::DOUBLE_QUOTE if !seen.replaced && inside => Role::Drops(State::Plain),
-        kind::DOUBLE_QUOTE if !seen.replaced => Role::Notes,
-        kind if inside => Role::Takes(State::Inside, kind == kind::NEWLINE),
-        _ => plain_role(separator, place, seen),
-    }
-}
+// A sheet beside a place, and beside what is seen: blanks.rt says why no struct holds the two.
 
 /// Whether a quote stands at a place.
 fn quote_at(sheet: &Sheet<'_>, place: Place) -> bool
     ensures { result ≡ quote_next (left_at (view sheet.now) place) }
 {
-    let Some(seen) = sheet.see(place) else {
-        return false;
-    };
-    is_plain(kind::DOUBLE_QUOTE, place, seen)
+    sheet
+        .see(place)
+        .is_some_and(|seen| seen.is(Kind::DoubleQuote))
 }
 
 /// Whether a quote inside quotes is followed by another.
-fn is_pair(sheet: &Sheet<'_>, inside: bool, place: Place, seen: Seen<'_>) -> bool
-    requires { place.token < max_tokens }
-    ensures { result ≡ (inside && (quotes (seen_at place seen.entry) && quote_next (left (view sheet.now) (place.token + 1) 0))) }
+fn is_pair(sheet: &Sheet<'_>, inside: bool, seen: Seen<'_>) -> bool
+    ensures { result ≡ (inside && (quotes (seen_at seen.entry) && quote_next (left (view sheet.now) (seen.entry.place.token + 1) 0))) }
 {
-    inside
-        && is_plain(kind::DOUBLE_QUOTE, place, seen)
-        && quote_at(
-            sheet,
-            Place {
-                token: place.token + 1,
-                offset: 0,
-            },
-        )
+    inside && seen.is(Kind::DoubleQuote) && quote_at(sheet, seen.behind())
+}
+
+impl Csv {
+    /// What a token does outside quotes, if it is no quote.
+    fn plain_role(&self, seen: Seen<'_>) -> Role
+        ensures { result ≡ csv_plain self.now.separator (seen_at seen.entry) }
+    {
+        if seen.kind == Kind::Newline {
+            return Role::EndsLine;
+        }
+        if self.separator.separates(seen) {
+            return Role::Separates;
+        }
+        self.separator.split_role(seen)
+    }
+
+    /// What a token does, inside quotes or not, by whether a quote follows it.
+    fn role_at(&self, inside: bool, next: bool, seen: Seen<'_>) -> Role
+        ensures { result ≡ csv_at self.now.separator inside next (seen_at seen.entry) }
+    {
+        // A `match` with guards, and no chain of `if`: the project asks for this form here.
+        match seen.kind {
+            Kind::DoubleQuote if !seen.replaced && inside && next => Role::Drops(State::Doubled),
+            Kind::DoubleQuote if !seen.replaced && inside => Role::Drops(State::Plain),
+            Kind::DoubleQuote if !seen.replaced => Role::Notes,
+            kind if inside => Role::Takes(State::Inside, kind == Kind::Newline),
+            _ => self.plain_role(seen),
+        }
+    }
 }
 
 impl Format for Csv {
     ghost role = { λ k. csv_role k.separator };
 
-    fn role(&self, sheet: &Sheet<'_>, state: State, place: Place, seen: Seen<'_>) -> Role {
-        if is_doubled(state) {
+    fn role(&self, sheet: &Sheet<'_>, state: State, seen: Seen<'_>) -> Role {
+        if state == State::Doubled {
             return Role::Takes(State::Inside, false);
         }
-        let inside = is_inside(state);
-        let next = is_pair(sheet, inside, place, seen);
-        role_at(self.separator, inside, next, place, seen)
+        let inside = state.is_inside();
+        let next = is_pair(sheet, inside, seen);
+        self.role_at(inside, next, seen)
     }
 }
 
 impl Opens for Csv {
     ghost begin = { λ _. csv_begin };
 
+    ghost moves = { λ k. csv_moves k.separator };
+
     ghost less = { λ k ts. csv_less ts };
 
     ghost inside = { λ k v ts h. csv_all (InsideLeft v) ts h };
 
     fn open_field(&self, sheet: &Sheet<'_>, place: Place) -> Opening {
-        let Some(seen) = sheet.see(place) else {
-            return Opening {
-                state: State::Plain,
-                place,
-                quote: None,
-            };
-        };
-        if !is_plain(kind::DOUBLE_QUOTE, place, seen) {
-            return Opening {
-                state: State::Plain,
-                place,
-                quote: None,
-            };
-        }
-        let skipped = skip_blanks(
-            sheet,
-            Place {
-                token: place.token + 1,
-                offset: 0,
+        match sheet.see(place) {
+            Some(seen) if seen.is(Kind::DoubleQuote) => Opening {
+                state: State::Inside,
+                place: skip_blanks(sheet, seen.behind(), false).place,
+                quote: Some(seen.place.token as u32),
             },
-            false,
-        );
-        Opening {
-            state: State::Inside,
-            place: skipped.place,
-            quote: Some(place.token),
+            _ => Opening {
+                state: State::Plain,
+                place,
+                quote: None,
+            },
         }
-    }
-}
-
-impl Cutter for Csv {
-    ghost cells = { λ k. fields (csv_role k.separator) csv_begin };
-
-    ghost fits = { λ k v p. fields_fit (csv_role k.separator) (csv_moves k.separator) csv_begin csv_less v (λ ts h. csv_all (InsideLeft v) ts h) p };
-
-    ghost first = { λ k v p. first_is (csv_role k.separator) (csv_moves k.separator) csv_begin csv_less v p };
-
-    fn cut(
-        &self,
-        sheet: &Sheet<'_>,
-        at: Position,
-        pieces: &mut Store<'_, Piece>,
-        notes: &mut Store<'_, Note>,
-    ) -> Result<Option<Cut>, CutRefusal> {
-        cut_field(sheet, self, at, pieces, notes)
     }
 }

@@ -6,16 +6,17 @@ ghost use Rattle.sheet.specs.View.{SheetView, view};
 ghost use Rattle.sheet.specs.Left.{Left as LeftToken, left, left_at, seen_at};
 ghost use Rattle.cut.specs.declared.machine.Role.{Role as RoleOf};
 ghost use Rattle.cut.specs.declared.machine.State.{State as StateOf};
-ghost use Rattle.cut.specs.Field.{is_doubled, is_escaped, is_inside};
+ghost use Rattle.cut.specs.Field.{is_inside};
 ghost use Rattle.cut.specs.Fields.{Begin, OpeningIs};
 ghost use Rattle.cut.specs.Insides.{InsideLeft};
+ghost use Rattle.cut.specs.Moves.{AllMove};
 ghost use Rattle.starts.specs.Weight.{weight};
 ghost use Rattle.cut.specs.Within.{Within};
 
 use sheet::{Place, Seen, Sheet};
 
 /// How a cell is read on.
-#[derive(Clone, Copy)]
+#[derive(Clone, Copy, Debug, PartialEq, Eq, Hash)]
 pub enum State {
     /// as it stands
     Plain,
@@ -27,38 +28,17 @@ pub enum State {
     Doubled,
 }
 
-/// Whether the next token is taken whole.
-pub fn is_escaped(state: State) -> bool
-    ensures { result ≡ is_escaped state }
-{
-    match state {
-        State::Escaped => true,
-        _ => false,
-    }
-}
-
-/// Whether quotes are open.
-pub fn is_inside(state: State) -> bool
-    ensures { result ≡ is_inside state }
-{
-    match state {
-        State::Inside | State::Doubled => true,
-        State::Plain | State::Escaped => false,
-    }
-}
-
-/// Whether the next token is a quote that is taken.
-pub fn is_doubled(state: State) -> bool
-    ensures { result ≡ is_doubled state }
-{
-    match state {
-        State::Doubled => true,
-        _ => false,
+impl State {
+    /// Whether quotes are open.
+    pub fn is_inside(self) -> bool
+        ensures { result ≡ is_inside self }
+    {
+        matches!(self, State::Inside | State::Doubled)
     }
 }
 
 /// What closed a cell.
-#[derive(Clone, Copy)]
+#[derive(Clone, Copy, Debug, PartialEq, Eq, Hash)]
 pub enum Close {
     End,
     Line,
@@ -66,7 +46,7 @@ pub enum Close {
 }
 
 /// What a token does in a cell.
-#[derive(Clone, Copy)]
+#[derive(Clone, Copy, Debug, PartialEq, Eq, Hash)]
 pub enum Role {
     /// closes it, as a line end
     EndsLine,
@@ -85,20 +65,19 @@ pub enum Role {
 }
 
 /// A format: what each token does in a cell.
-pub trait Format {
+pub trait Format: Copy {
     ghost role: { Self → StateOf → List LeftToken → RoleOf };
 
-    /// What the token at a place does.
-    fn role(&self, sheet: &Sheet<'_>, state: State, place: Place, seen: Seen<'_>) -> Role
-        requires here { left_at (view sheet.now) place ≡ seen_at place seen ∷ left (view sheet.now) (place.token + 1) 0 }
-        requires some { 0 < length seen.bytes.now }
-        requires few { place.token < max_tokens }
-        ensures value { result ≡ role self.now state (left_at (view sheet.now) place) }
+    /// What a token does that is seen on a sheet.
+    fn role(&self, sheet: &Sheet<'_>, state: State, seen: Seen<'_>) -> Role
+        requires { left_at (view sheet.now) seen.place ≡ seen_at seen ∷ left (view sheet.now) (seen.place.token + 1) 0 }
+        ensures value { result ≡ role self.now state (left_at (view sheet.now) seen.entry.place) }
         ensures within { Within result (length seen.entry.bytes.now) };
 }
 
 /// What stands behind the last piece that is kept so far: nothing, one Newline, two Newlines first, or other blanks.
-#[derive(Clone, Copy)]
+// Four cases, and no `Option` of three: `Nothing` goes on to `Newline`, as `Newline` does to `Blank`.
+#[derive(Clone, Copy, Debug, PartialEq, Eq, Hash)]
 pub enum Tail {
     Nothing,
     Newline,
@@ -107,20 +86,22 @@ pub enum Tail {
 }
 
 /// How a field begins behind what is skipped: its state, where it is read on, and the token of its opening quote.
-#[derive(Clone, Copy)]
+#[derive(Clone, Copy, Debug, PartialEq, Eq, Hash)]
 pub struct Opening {
     pub state: State,
     pub place: Place,
-    pub quote: Option<usize>,
+    pub quote: Option<u32>,
 }
 
 /// A format of fields: how one begins.
-pub trait Opens {
+pub trait Opens: Format {
     ghost begin: { Self → List LeftToken → Begin };
 
     /// How the field at a place begins.
     fn open_field(&self, sheet: &Sheet<'_>, place: Place) -> Opening
         ensures { OpeningIs (view sheet.now) result (begin self.now (left_at (view sheet.now) place)) };
+
+    ghost moves: { (k : Self) → AllMove (Self.role k) };
 
     ghost less: { (k : Self) (ts : List LeftToken) → weight (begin k ts).left ≤ weight ts };
 

@@ -1,32 +1,30 @@
 // Prefix cells.
-ghost use Rattle.std.specs.Prelude.{◌≡◌, ◌+◌, ◌<◌, ◌≤◌, true, false, not, ◌&&◌, ◌∷◌, length, drop, Ok, Err};
+ghost use Rattle.std.specs.Prelude.{◌≡◌, ◌+◌, ◌<◌, ◌≤◌, true, false, not, ◌&&◌, ◌∷◌, length, drop, IfOk, IfErr, MatchResult};
 ghost use Rattle.sheet.specs.Left.{left, left_at, seen_at};
 ghost use Rattle.sheet.specs.Limits.{max_tokens};
 ghost use Rattle.sheet.specs.View.{view};
 ghost use Rattle.store.specs.Entries.{entries};
 ghost use Rattle.cut.specs.BlankLine.{two_newlines};
+ghost use Rattle.cut.specs.Answer.{cutter_told};
 ghost use Rattle.cut.specs.Prefix.{starts, prefix_takes, prefix_role, prefix_cells, head_of_cell, HeadIs, ToldCell};
 ghost use Rattle.cut.specs.Separators.{escapes, is_separator};
-ghost use Rattle.cut.specs.Within.{Within};
 ghost use Rattle.cut.specs.Prefixes.{cells_fit, first_cell};
 
 use crate::blank_line::has_blank_line;
 use crate::blanks::skip_blanks;
 use crate::cutter::Cutter;
-use crate::fields::{add_note, note_count};
-use crate::machine::{Format, Role, State, is_escaped};
-use crate::scan::{Found, fill, scan};
-use crate::separator::{bytes_before, is_plain, is_separator_byte, separator_of};
+use crate::fields::add_note;
+use crate::machine::{Format, Role, State};
+use crate::notes::NoteKind;
+use crate::reader::Reader;
+use crate::scan::Found;
 use crate::types::{Cut, CutRefusal, CutterRefusal, Note, Separator};
-use sheet::{Piece, Place, Position, Seen, Sheet, kind};
+use sheet::{Kind, Piece, Place, Position, Seen, Sheet};
 use starts::{Specifier, read_start};
 use store::Store;
 
-/// Note 1: no cell starts where one was expected.
-const NO_START: u8 = 1;
-
 /// The cutter of cells with a separator, and perhaps a specifier, in front of each.
-#[derive(Clone, Copy)]
+#[derive(Clone, Copy, Debug, PartialEq, Eq, Hash)]
 pub struct Prefix {
     byte: u8,
 }
@@ -34,116 +32,85 @@ pub struct Prefix {
 impl Prefix {
     /// A cutter with this separator; refused 2 unless it is a printable byte from `!` to `~` other than `"` and `\`.
     pub fn new(separator: u8) -> Result<Prefix, CutterRefusal>
-        ensures { elim result [
-          | Ok k ↦ (is_separator separator ≡ true) × (k.byte ≡ separator)
-          | Err _ ↦ is_separator separator ≡ false
-        ] }
+        ensures allowed { MatchResult result (λ _. is_separator separator ≡ true) (λ _. is_separator separator ≡ false) }
+        ensures separator { IfOk result (λ k. k.byte ≡ separator) }
+        ensures refused { IfErr result (λ e. (cutter_told e).number ≡ 2) }
     {
-        if !is_separator_byte(separator) {
-            return Err(CutterRefusal::BadSeparator);
-        }
+        Separator::try_from(separator)?;
         Ok(Prefix { byte: separator })
     }
 }
 
-/// Whether a cell starts at a place.
-fn is_start(sheet: &Sheet<'_>, separator: u8, place: Place) -> bool
-    ensures { result ≡ starts separator (left_at (view sheet.now) place) }
-{
-    let Some(_) = read_start(sheet, separator, place) else {
-        return false;
-    };
-    true
-}
-
-/// Whether what stands at a place is a Backslash before a start.
-fn is_escape(sheet: &Sheet<'_>, separator: u8, place: Place, seen: Seen<'_>) -> bool
-    requires { place.token < max_tokens }
-    ensures { result ≡ (escapes (seen_at place seen.entry) && starts separator (left (view sheet.now) (place.token + 1) 0)) }
-{
-    is_plain(kind::BACKSLASH, place, seen)
-        && is_start(
-            sheet,
-            separator,
-            Place {
-                token: place.token + 1,
-                offset: 0,
-            },
-        )
-}
-
-/// A Word is split before the separator byte; any other token is taken.
-fn split_role(separator: u8, place: Place, seen: Seen<'_>) -> Role
-    ensures value { result ≡ prefix_takes separator (seen_at place seen.entry) }
-    ensures within { Within result (length seen.entry.bytes.now) }
-{
-    let takes = Role::Takes(State::Plain, seen.kind == kind::NEWLINE);
-    let Separator::Byte(byte) = separator_of(separator) else {
-        return takes;
-    };
-    if !is_plain(kind::WORD, place, seen) {
-        return takes;
-    }
-    let n = bytes_before(seen.bytes, byte);
-    if n < seen.bytes.len() {
-        Role::Splits(n, n)
-    } else {
-        takes
-    }
-}
-
-impl Format for Prefix {
-    ghost role = { λ k. prefix_role k.byte };
-
-    fn role(&self, sheet: &Sheet<'_>, state: State, place: Place, seen: Seen<'_>) -> Role {
-        if is_escaped(state) {
-            return Role::Takes(State::Plain, seen.kind == kind::NEWLINE);
-        }
-        if is_start(sheet, self.byte, place) {
-            return Role::Starts;
-        }
-        if is_escape(sheet, self.byte, place, seen) {
-            return Role::Drops(State::Escaped);
-        }
-        split_role(self.byte, place, seen)
-    }
-}
-
 /// What stands in front of a cell: its specifier, where its text begins, and note 1 where no cell starts there.
-#[derive(Clone, Copy)]
+#[derive(Clone, Copy, Debug, PartialEq, Eq, Hash)]
 pub struct Reading {
     pub specifier: Specifier,
     pub place: Place,
     pub note: Option<Note>,
 }
 
-/// Reads what stands in front of the cell at a place.
-fn read_head(sheet: &Sheet<'_>, separator: u8, place: Place) -> Reading
-    requires { place.token < max_tokens }
-    ensures { HeadIs (view sheet.now) result (head_of_cell separator place.token (left_at (view sheet.now) place)) }
-{
-    let Some(start) = read_start(sheet, separator, place) else {
-        let specifier = Specifier {
-            factor: 1,
-            columns: 1,
-            rows: 1,
-            horizontal: None,
-            vertical: None,
-            style: None,
-        };
-        return Reading {
-            specifier,
-            place,
-            note: Some(Note {
-                number: NO_START,
-                token: place.token as u32,
-            }),
-        };
-    };
-    Reading {
-        specifier: start.specifier,
-        place: start.rest,
-        note: None,
+impl Prefix {
+    // A sheet beside a place, and beside what is seen: blanks.rt says why no struct holds the two.
+
+    /// Whether a cell starts at a place.
+    fn is_start(&self, sheet: &Sheet<'_>, place: Place) -> bool
+        ensures { result ≡ starts self.now.byte (left_at (view sheet.now) place) }
+    {
+        read_start(sheet, self.byte, place).is_some()
+    }
+
+    /// Whether what is seen is a Backslash before a start.
+    fn is_escape(&self, sheet: &Sheet<'_>, seen: Seen<'_>) -> bool
+        ensures { result ≡ (escapes (seen_at seen.entry) && starts self.now.byte (left (view sheet.now) (seen.entry.place.token + 1) 0)) }
+    {
+        seen.is(Kind::Backslash) && self.is_start(sheet, seen.behind())
+    }
+
+    /// A Word is split before the separator byte; any other token is taken.
+    // Not the separator's `split_role`: that drops the byte and marks no Newline. Here the byte stays in front of the
+    // next cell, and a Newline that is taken marks a line end.
+    fn takes_role(&self, seen: Seen<'_>) -> Role
+        ensures { result ≡ prefix_takes self.now.byte (seen_at seen.entry) }
+    {
+        match Separator::of(self.byte).split_at(seen) {
+            Some(n) => Role::Splits(n, n),
+            None => Role::Takes(State::Plain, seen.kind == Kind::Newline),
+        }
+    }
+
+    /// Reads what stands in front of the cell that begins with what is seen.
+    fn read_head(&self, sheet: &Sheet<'_>, seen: Seen<'_>) -> Reading
+        ensures { HeadIs (view sheet.now) result (head_of_cell self.now.byte seen.entry.place.token (left_at (view sheet.now) seen.entry.place)) }
+    {
+        match read_start(sheet, self.byte, seen.place) {
+            Some(start) => Reading {
+                specifier: start.specifier,
+                place: start.rest,
+                note: None,
+            },
+            None => Reading {
+                specifier: Specifier::NOTHING,
+                place: seen.place,
+                note: Some(NoteKind::NoStart.at(seen.place.token as u32)),
+            },
+        }
+    }
+}
+
+impl Format for Prefix {
+    ghost role = { λ k. prefix_role k.byte };
+
+    fn role(&self, sheet: &Sheet<'_>, state: State, seen: Seen<'_>) -> Role {
+        if state == State::Escaped {
+            return Role::Takes(State::Plain, seen.kind == Kind::Newline);
+        }
+        if self.is_start(sheet, seen.place) {
+            return Role::Starts;
+        }
+        if self.is_escape(sheet, seen) {
+            return Role::Drops(State::Escaped);
+        }
+        self.takes_role(seen)
     }
 }
 
@@ -166,13 +133,9 @@ fn told_cell(first: usize, head: Reading, found: Found, inside: bool) -> Cut
         line_end: found.line,
         blank_after: found.blank,
         blank_inside: inside,
-        notes: note_count(head.note),
+        notes: usize::from(head.note.is_some()),
         first_note: head.note,
-        rest: Position {
-            token: found.rest.token,
-            offset: found.rest.offset,
-            separated: false,
-        },
+        rest: found.rest.position(false),
     }
 }
 
@@ -190,26 +153,18 @@ impl Cutter for Prefix {
         pieces: &mut Store<'_, Piece>,
         notes: &mut Store<'_, Note>,
     ) -> Result<Option<Cut>, CutRefusal> {
-        let start = sheet.place_of(at);
-        let Some(_) = sheet.see(start) else {
+        // No `?`: where nothing is left, the answer is `Ok(None)`.
+        let Some(seen) = sheet.see(Place::from(at)) else {
             return Ok(None);
         };
-        let head = read_head(sheet, self.byte, start);
+        let head = self.read_head(sheet, seen);
         let skipped = skip_blanks(sheet, head.place, true);
-        let found = scan(sheet, self, State::Plain, skipped.place);
+        let reader = Reader::new(sheet, self, State::Plain, skipped.place);
+        let found = reader.scan();
         let used = pieces.len();
-        if !fill(
-            sheet,
-            self,
-            State::Plain,
-            skipped.place,
-            found.finished,
-            pieces,
-        ) {
-            return Err(CutRefusal::NoRoom);
-        }
+        reader.fill(found.finished, pieces)?;
         add_note(head.note, notes);
         let inside = is_blank_inside(sheet, pieces, used, found.blank);
-        Ok(Some(told_cell(start.token, head, found, inside)))
+        Ok(Some(told_cell(seen.place.token, head, found, inside)))
     }
 }

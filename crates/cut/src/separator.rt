@@ -1,82 +1,87 @@
 // What separates the cells of CSV and DSV.
-ghost use Rattle.std.specs.Prelude.{◌≡◌, ◌+◌, ◌<◌, ◌≤◌, false, length};
+ghost use Rattle.std.specs.Prelude.{◌≡◌, ◌<◌, length, if◌then◌else◌, Some, None, IfSome, ◌==◌};
+ghost use Rattle.std.specs.List.{position};
 ghost use Rattle.sheet.specs.Left.{seen_at};
 ghost use Rattle.cut.specs.Dsv.{split_role};
-ghost use Rattle.cut.specs.Separators.{separates, before, is_separator, separator_of};
-ghost use Rattle.starts.specs.Fronts.{plain};
-ghost use Rattle.cut.specs.Within.{Within};
+ghost use Rattle.cut.specs.Separators.{SeparatorFrom, separates, split_at, splits, is_separator, separator_of};
 
 use crate::machine::{Role, State};
-use crate::types::Separator;
-use sheet::{Place, Seen, kind};
+use crate::types::{CutterRefusal, Separator};
+use sheet::{Kind, Seen};
 
 /// Whether a cutter can have this separator.
-pub fn is_separator_byte(byte: u8) -> bool
+fn is_separator_byte(byte: u8) -> bool
     ensures { result ≡ is_separator byte }
 {
-    byte >= 0x21 && byte <= 0x7e && byte != b'"' && byte != b'\\'
+    byte.is_ascii_graphic() && byte != b'"' && byte != b'\\'
 }
 
-/// The separator of a byte.
-pub fn separator_of(byte: u8) -> Separator
-    ensures { result ≡ separator_of byte }
+/// Where a byte first stands.
+// A function of its own: `split_at` with the chain inside was tried, and the check alone did not close the proof.
+fn first_at(bytes: &[u8], byte: u8) -> Option<usize>
+    ensures { result ≡ position (λ b. b == byte) bytes.now }
 {
-    match byte {
-        b':' => Separator::Kind(kind::COLON),
-        b';' => Separator::Kind(kind::SEMI_COLON),
-        b'|' => Separator::Kind(kind::PIPE),
-        b',' => Separator::Kind(kind::COMMA),
-        _ => Separator::Byte(byte),
-    }
+    bytes.iter().position(|b| *b == byte)
 }
 
-/// Whether what stands at a place is an unreplaced token of a kind.
-pub fn is_plain(kind: u8, place: Place, seen: Seen<'_>) -> bool
-    ensures { result ≡ plain kind (seen_at place seen.entry) }
-{
-    !seen.replaced && seen.kind == kind
-}
+impl Separator {
+    // No `From`: the `TryFrom` below says which bytes a cutter can have, and a type has one of the two.
 
-/// Whether what stands at a place is a separator.
-pub fn is_separator(separator: Separator, place: Place, seen: Seen<'_>) -> bool
-    requires { 0 < length seen.bytes.now }
-    ensures { result ≡ separates separator (seen_at place seen.entry) }
-{
-    match separator {
-        Separator::Kind(kind) => !seen.replaced && seen.kind == kind,
-        Separator::Byte(byte) => !seen.replaced && seen.bytes[0] == byte,
-    }
-}
-
-/// How many bytes stand before the first `byte`.
-pub fn bytes_before(bytes: &[u8], byte: u8) -> usize
-    ensures { result ≡ before byte bytes.now }
-{
-    let mut n: usize = 0;
-    'bytes: while n < bytes.len() {
-        if bytes[n] == byte {
-            return n;
+    /// The separator of a byte.
+    pub(crate) fn of(byte: u8) -> Separator
+        ensures { result ≡ separator_of byte }
+    {
+        match byte {
+            b':' => Separator::Kind(Kind::Colon),
+            b';' => Separator::Kind(Kind::SemiColon),
+            b'|' => Separator::Kind(Kind::Pipe),
+            b',' => Separator::Kind(Kind::Comma),
+            _ => Separator::Byte(byte),
         }
-        n += 1;
     }
-    n
+
+    /// Whether what is seen is a separator.
+    pub(crate) fn separates(self, seen: Seen<'_>) -> bool
+        ensures { result ≡ separates self (seen_at seen.entry) }
+    {
+        match self {
+            Separator::Kind(kind) => seen.is(kind),
+            Separator::Byte(byte) => !seen.replaced && seen.bytes[0] == byte,
+        }
+    }
+
+    /// Where what is seen is split: an unreplaced Word, before the first separator byte in it.
+    pub(crate) fn split_at(self, seen: Seen<'_>) -> Option<usize>
+        ensures at { result ≡ (if splits self (seen_at seen.entry) then Some (split_at self (seen_at seen.entry)) else None) }
+        ensures within { IfSome result (λ n. n < length seen.entry.bytes.now) }
+    {
+        match self {
+            Separator::Byte(byte) if seen.is(Kind::Word) => first_at(seen.bytes, byte),
+            _ => None,
+        }
+    }
+
+    /// What a token does in a field where nothing else is said of it: a Word is split before the separator byte, which
+    /// is dropped; any other token is taken.
+    pub(crate) fn split_role(self, seen: Seen<'_>) -> Role
+        ensures { result ≡ split_role self (seen_at seen.entry) }
+    {
+        match self.split_at(seen) {
+            Some(n) => Role::Splits(n, n + 1),
+            None => Role::Takes(State::Plain, false),
+        }
+    }
 }
 
-/// A Word is split before the separator byte; any other token is taken.
-pub fn split_role(separator: Separator, place: Place, seen: Seen<'_>) -> Role
-    ensures value { result ≡ split_role separator (seen_at place seen.entry) }
-    ensures within { Within result (length seen.entry.bytes.now) }
-{
-    let Separator::Byte(byte) = separator else {
-        return Role::Takes(State::Plain, false);
-    };
-    if !is_plain(kind::WORD, place, seen) {
-        return Role::Takes(State::Plain, false);
-    }
-    let n = bytes_before(seen.bytes, byte);
-    if n < seen.bytes.len() {
-        Role::Splits(n, n + 1)
-    } else {
-        Role::Takes(State::Plain, false)
+impl TryFrom<u8> for Separator {
+    type Error = CutterRefusal;
+
+    ghost try_from_gives = { SeparatorFrom };
+
+    fn try_from(byte: u8) -> Result<Separator, CutterRefusal> {
+        if !is_separator_byte(byte) {
+            return Err(CutterRefusal::BadSeparator);
+        }
+        Ok(Separator::of(byte))
     }
 }

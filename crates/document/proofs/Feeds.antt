@@ -6,8 +6,8 @@ use Rattle.std.proofs.lemmas.List.{length-drop, length-take-le, get_or-drop, tak
 use Rattle.std.proofs.lemmas.List.Sums.{sum_by-cons, sum_by-append, prefix_len-le-length}
 use Rattle.std.proofs.lemmas.Bool.{eqb-true, eqb-false, eq-eqb, or_right, or_cases, cases_order}
 use Rattle.document.specs.Bytes.{before}
-use Rattle.document.specs.Lines.{size_at, line_at, next_at, feeds}
-use Rattle.document.specs.Blocks.{is_line_start, Stands, Missing}
+use Rattle.document.specs.Lines.{size_at, line_at, next_at, is_line_start, feeds}
+use Rattle.document.specs.Blocks.{Stands, Missing}
 
 -- the byte behind those before the first b is b
 pub before_here : (b : ℕ) (xs : List ℕ) → before b xs < length xs → get_or xs (before b xs) 0 ≡ b

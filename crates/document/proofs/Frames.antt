@@ -1,11 +1,10 @@
 -- What is known of a table that the search finds, and of where the search comes to.
 -- Assumes nothing.
 use Rattle.std.proofs.Common.{◌≡◌, ℕ, ◌+◌, ◌<◌, Bool, true, false, cond, List, [], ◌∷◌, ◌++◌, length, take, sym, refl, ap, ◌∙◌, subst, arith}
-use Rattle.document.specs.Lines.{line_at, next_at, feeds}
+use Rattle.document.specs.Lines.{line_at, next_at, is_line_start, feeds}
 use Rattle.document.specs.Marks.{is_table_line, is_verbatim_line, is_attribute_line, is_aside, kind_of}
 use Rattle.document.specs.Attributes.{said, nothing}
-use Rattle.document.specs.Blocks.{is_line_start, Stands, FoundAt, Reached, begun, found, Framed}
-use Rattle.document.specs.declared.blocks.Position.{Position}
+use Rattle.document.specs.Blocks.{Position, Stands, FoundAt, Reached, begun, found, Framed}
 use Rattle.document.specs.declared.marks.LineKind.TheVariants.{Table, Verbatim, Attributes, Aside, Text}
 use Rattle.document.specs.declared.table.Table as table
 
@@ -55,6 +54,3 @@ begun_at text p ts e a b c = subst (λ (l : List table.Table). Reached text p l)
 pub found_at : (text : List ℕ) (p q : Position) (t : table.Table) (ts us : List table.Table) → us ≡ ts ++ t ∷ [] → Reached text p ts
     → p.at < length text → FoundAt text p t q → Reached text q us
 found_at text p q t ts us e r inside f = subst (λ (l : List table.Table). Reached text q l) (sym e) (found r inside f)
-
-pub stands_front : (text : List ℕ) → Stands text 0 0
-stands_front text = record { within = omega arith; few = omega arith; begins = λ h. refl; counted = λ h. refl }

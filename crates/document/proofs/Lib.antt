@@ -1,5 +1,8 @@
-pub mod Places
-pub mod Cuts
 pub mod Spread
 pub mod Feeds
 pub mod Frames
+pub mod Chains
+pub mod Cuts
+pub mod Paragraphs
+pub mod Walks
+pub mod Searches

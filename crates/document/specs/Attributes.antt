@@ -2,18 +2,21 @@
 -- A spot is where reading stands in an item: quotes open in front of the item or of its value.
 -- Assumes nothing.
 use Rattle.std.specs.Prelude.{ℕ, ◌+◌, ◌-◌, ◌^◌, min, Bool, true, false, cond, not, ◌&&◌, ◌||◌, List, [], ◌∷◌, length, take, drop, Some, None, codes, fold, Option, ◌==◌, nat_le, nat_lt, slice_index}
-use Rattle.std.specs.List.{prefix_len}
+use Rattle.std.specs.Borrow.{Bor}
+use Rattle.std.specs.List.{prefix_len, onto_first}
 use Rattle.std.specs.Str.{bytes_eq}
 use Rattle.document.specs.Bytes.{before, trim, trim_end}
 use Rattle.document.specs.Marks.{is_attribute_line}
-use Rattle.document.specs.Pieces.{onto, pieces, behind}
+use Rattle.document.specs.Pieces.{pieces, behind}
 use Rattle.document.specs.Columns.{kept_of, all_styles}
 use Rattle.document.specs.declared.attributes.Attributes as attributes
 use Rattle.document.specs.declared.attributes.Options as options
 use Rattle.document.specs.declared.attributes.FormatName.{FormatName}
 use Rattle.document.specs.declared.attributes.FormatName.TheVariants.{Psv, Csv, Tsv, Dsv}
 use Rattle.document.specs.declared.attributes.Name.{Name}
-use Rattle.document.specs.declared.attributes.Name.TheVariants.{Cols, Options, Format, Separator, Other}
+use Rattle.document.specs.declared.attributes.Name.TheVariants.{Cols, Options, Format, Separator}
+use Rattle.styles.specs.declared.Style.{Style}
+use Rattle.document.specs.declared.attributes.Items.{Items}
 use Rattle.document.specs.declared.attributes.Spot.{Spot}
 use Rattle.document.specs.declared.attributes.Spot.TheVariants.{Front, Quoted, Inside}
 
@@ -40,12 +43,20 @@ item_size s (x ∷ xs) = cond (ends_item s x) 0 (1 + item_size (after s x) xs)
 -- the items of a list between commas
 abbrev pub items : Spot → List ℕ → List (List ℕ)
 items s [] = [] ∷ []
-items s (x ∷ xs) = cond (ends_item s x) ([] ∷ items Front xs) (onto x (items (after s x) xs))
+items s (x ∷ xs) = cond (ends_item s x) ([] ∷ items Front xs) (onto_first x (items (after s x) xs))
 
 -- the items behind the first comma, of a list that begins with it
 abbrev pub items_behind : List ℕ → List (List ℕ)
 items_behind [] = []
 items_behind (x ∷ xs) = items Front xs
+
+-- the items of what is left of a list, of which nothing is left behind the last item
+abbrev pub items_of : Option (Bor (List ℕ)) → List (List ℕ)
+items_of None = []
+items_of (Some list) = items Front list.now
+
+abbrev pub items_left : Items → List (List ℕ)
+items_left i = items_of i.0
 
 -- `#` and `.` end an option of the shorthand
 abbrev pub is_option_end : ℕ → Bool
@@ -54,12 +65,12 @@ is_option_end b = b == 35 || b == 46
 abbrev pub option_size : List ℕ → ℕ
 option_size xs = prefix_len (λ x. not (is_option_end x)) xs
 
-abbrev pub name_of : List ℕ → Name
+abbrev pub name_of : List ℕ → Option Name
 name_of xs =
-    cond (bytes_eq xs (codes "cols")) Cols
-    (cond (bytes_eq xs (codes "options") || bytes_eq xs (codes "opts")) Options
-    (cond (bytes_eq xs (codes "format")) Format
-    (cond (bytes_eq xs (codes "separator")) Separator Other)))
+    cond (bytes_eq xs (codes "cols")) (Some Cols)
+    (cond (bytes_eq xs (codes "options") || bytes_eq xs (codes "opts")) (Some Options)
+    (cond (bytes_eq xs (codes "format")) (Some Format)
+    (cond (bytes_eq xs (codes "separator")) (Some Separator) None)))
 
 abbrev pub format_named : List ℕ → Option FormatName
 format_named xs =
@@ -108,7 +119,7 @@ with_shorthand o xs = fold (λ p part. with_option p (option_in part)) o (behind
 -- what attributes say of a table: how many columns and which styles of them, the options, the format, the separator
 pub record Said : Type 0 where
   pub count : ℕ
-  pub styles : List ℕ
+  pub styles : List Style
   pub options : options.Options
   pub format : Option FormatName
   pub separator : Option ℕ
@@ -131,7 +142,11 @@ with_value s Cols v = record { count = min (length (all_styles v)) (2 ^ 64 - 1);
 with_value s Options v = record { count = s.count; styles = s.styles; options = with_options s.options v; format = s.format; separator = s.separator }
 with_value s Format v = record { count = s.count; styles = s.styles; options = s.options; format = latest (format_named v) s.format; separator = s.separator }
 with_value s Separator v = record { count = s.count; styles = s.styles; options = s.options; format = s.format; separator = latest (separator_of v) s.separator }
-with_value s Other v = s
+
+-- with a value by a name that may have no meaning here
+abbrev pub with_named : Said → Option Name → List ℕ → Said
+with_named s None v = s
+with_named s (Some name) v = with_value s name v
 
 -- with a shorthand
 abbrev pub with_short : Said → List ℕ → Said
@@ -141,7 +156,7 @@ with_short s xs = record { count = s.count; styles = s.styles; options = with_sh
 abbrev pub with_item : Said → List ℕ → Bool → Said
 with_item s xs first =
     cond (nat_lt 0 (length (drop (before 61 xs) xs)))
-    (with_value s (name_of (trim (take (before 61 xs) xs))) (unquoted (trim (drop 1 (drop (before 61 xs) xs)))))
+    (with_named s (name_of (trim (take (before 61 xs) xs))) (unquoted (trim (drop 1 (drop (before 61 xs) xs)))))
     (cond first (with_short s xs) s)
 
 -- with items one after the other, of which only the first may be a shorthand

@@ -1,27 +1,31 @@
 -- Where the search for tables stands, and what is true of the tables that it finds.
 -- A line begins at an offset where that is the text's front or stands behind a line feed.
 -- Assumes nothing.
-use Rattle.std.specs.Prelude.{◌≡◌, ℕ, ◌+◌, ◌-◌, ◌<◌, ◌≤◌, Bool, true, ◌&&◌, ◌||◌, ◌⊎◌, List, [], ◌∷◌, ◌++◌, length, take, drop, Some, None, Option, ◌==◌, ◌≢◌, nat_lt, slice_index}
-use Rattle.document.specs.Lines.{line_at, next_at, feeds}
+use Rattle.std.specs.Prelude.{◌≡◌, ℕ, ◌+◌, ◌<◌, ◌≤◌, true, ◌&&◌, ◌⊎◌, List, [], ◌∷◌, ◌++◌, length, take, drop, Some, None, Option, ◌≢◌, nat_lt}
+use Rattle.document.specs.Lines.{line_at, next_at, is_line_start, feeds}
 use Rattle.document.specs.Marks.{is_table_line, kind_of}
 use Rattle.document.specs.Attributes.{said, nothing, with_line}
 use Rattle.document.specs.Tables.{format_of, separator_for, first_one_line, begins_blank}
-use Rattle.document.specs.declared.blocks.Closing.{Closing}
-use Rattle.document.specs.declared.blocks.Position.{Position}
-use Rattle.document.specs.declared.blocks.Step.{Step}
-use Rattle.document.specs.declared.blocks.Step.TheVariants.{On, Found, Unclosed}
+use Rattle.document.specs.declared.attributes.Attributes as attributes
 use Rattle.document.specs.declared.marks.LineKind.{LineKind}
 use Rattle.document.specs.declared.marks.LineKind.TheVariants.{Table, Verbatim, Attributes, Aside, Text}
 use Rattle.document.specs.declared.table.Table as table
+
+-- where the search stands: at the front of a line, so many lines from the text's front, with the attributes in force
+pub record Position : Type 0 where
+  pub at : ℕ
+  pub before : ℕ
+  pub attributes : attributes.Attributes
+
+-- a line that closes a block: where it begins, and how many lines stand before it
+pub record Closing : Type 0 where
+  pub start : ℕ
+  pub before : ℕ
 
 -- the first byte of a line, 0 where it has none
 abbrev pub mark_of : List ℕ → ℕ
 mark_of [] = 0
 mark_of (x ∷ xs) = x
-
--- a line begins at an offset
-abbrev pub is_line_start : List ℕ → ℕ → Bool
-is_line_start text i = i == 0 || slice_index text (i - 1) == 10
 
 -- the search stands at an offset with so many lines before it
 pub record Stands (text : List ℕ) (at before : ℕ) : Type 0 where
@@ -42,7 +46,6 @@ pub record Closes (text opening : List ℕ) (from before : ℕ) (c : Closing) : 
   pub stands : Stands text c.start c.before
   pub same : line_at text c.start ≡ opening
   pub first : Missing text opening from c.start
-  pub next : c.next ≡ next_at text c.start
 
 -- the table between an opening line at a position and a closing line
 abbrev pub table_of : List ℕ → Position → ℕ → ℕ → Closing → table.Table
@@ -63,15 +66,15 @@ table_of text p mark start c =
     }
 
 -- where the search stands behind a block: below its closing line, with no attributes
-pub record Behind (c : Closing) (q : Position) : Type 0 where
-  pub at : q.at ≡ c.next
+pub record Behind (text : List ℕ) (c : Closing) (q : Position) : Type 0 where
+  pub at : q.at ≡ next_at text c.start
   pub before : q.before ≡ c.before + 1
   pub clear : said q.attributes ≡ nothing
 
 -- where it stands behind a verbatim block: below its closing line, or at the text's end where it has none
 abbrev pub Passes : List ℕ → List ℕ → ℕ → ℕ → Position → Type 0
 Passes text opening from before q =
-    ((c : Closing) × Closes text opening from before c × Behind c q)
+    ((c : Closing) × Closes text opening from before c × Behind text c q)
     ⊎ (Missing text opening from (length text) × (q.at ≡ length text) × (said q.attributes ≡ nothing))
 
 -- where it stands below a line
@@ -92,27 +95,12 @@ pub record FoundAt (text : List ℕ) (p : Position) (t : table.Table) (q : Posit
   pub opens : kind_of (line_at text p.at) ≡ Table
   pub closes : Closes text (line_at text p.at) (next_at text p.at) (p.before + 1) close
   pub is : t ≡ table_of text p (mark_of (line_at text p.at)) (next_at text p.at) close
-  pub behind : Behind close q
+  pub behind : Behind text close q
 
 -- a table block opens at a position and is never closed
 pub record OpenAt (text : List ℕ) (p : Position) : Type 0 where
   pub opens : kind_of (line_at text p.at) ≡ Table
   pub never : Missing text (line_at text p.at) (next_at text p.at) (length text)
-
--- what comes of the line at a position
-abbrev pub Steps : List ℕ → Position → Step → Type 0
-Steps text p (On q) = Onward text p q (kind_of (line_at text p.at))
-Steps text p (Found t q) = FoundAt text p t q
-Steps text p Unclosed = OpenAt text p
-
--- the search stands further down
-abbrev pub Further : List ℕ → Position → Position → Type 0
-Further text p q = (p.at < q.at) × Stands text q.at q.before
-
-abbrev pub Goes : List ℕ → Position → Step → Type 0
-Goes text p (On q) = Further text p q
-Goes text p (Found t q) = Further text p q
-Goes text p Unclosed = Unit {0}
 
 -- the positions that a search comes to from the text's front, with the tables that it has found by then
 pub data Reached (text : List ℕ) : Position → List table.Table → Type 0 where

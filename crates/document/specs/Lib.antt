@@ -6,3 +6,4 @@ pub mod Columns
 pub mod Attributes
 pub mod Tables
 pub mod Blocks
+pub mod Walks

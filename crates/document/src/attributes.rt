@@ -1,13 +1,14 @@
 // The attributes of a table, read from lines in brackets such as `[%header,cols="1,2*m",format=csv]`.
 ghost use Rattle.std.specs.Prelude.{◌≡◌, ◌≤◌, length};
-ghost use Rattle.document.specs.Attributes.{after, ends_item, item_size, is_option_end, option_size, option_in, name_of, format_named, separator_of, is_quoted, unquoted, with_option, with_options, with_shorthand, said, with_value, with_item, with_list, with_line};
+ghost use Rattle.std.specs.Iterator.{YieldsFirstRef, item_count};
+ghost use Rattle.document.specs.Attributes.{after, ends_item, item_size, items_left, option_in, name_of, format_named, separator_of, unquoted, with_option, with_options, with_shorthand, said, with_value, with_item, with_list, with_line};
 
-use crate::bytes::{find, same, trim, trim_end};
+use crate::bytes::{find, trim, trim_end};
 use crate::columns::{Columns, columns_of};
 use crate::marks::is_attribute_line;
 
 /// The options of a table that are named; what is not named is `false`.
-#[derive(Clone, Copy)]
+#[derive(Clone, Copy, Debug, Default, PartialEq, Eq, Hash)]
 pub struct Options {
     pub header: bool,
     pub noheader: bool,
@@ -15,7 +16,7 @@ pub struct Options {
 }
 
 /// The value of a `format` attribute.
-#[derive(Clone, Copy)]
+#[derive(Clone, Copy, Debug, PartialEq, Eq, Hash)]
 pub enum FormatName {
     Psv,
     Csv,
@@ -24,7 +25,7 @@ pub enum FormatName {
 }
 
 /// What attribute lines say of the table below them.
-#[derive(Clone, Copy)]
+#[derive(Clone, Copy, Debug)]
 pub struct Attributes {
     pub columns: Columns,
     pub options: Options,
@@ -33,22 +34,25 @@ pub struct Attributes {
 }
 
 /// The attributes that have a meaning here, by their names.
-#[derive(Clone, Copy)]
+#[derive(Clone, Copy, Debug, PartialEq, Eq, Hash)]
 pub enum Name {
     Cols,
     Options,
     Format,
     Separator,
-    Other,
 }
 
 /// Where reading stands in an item: in front of the item or of its value, in quotes, or past where quotes can open.
-#[derive(Clone, Copy)]
+#[derive(Clone, Copy, Debug, PartialEq, Eq, Hash)]
 pub enum Spot {
     Front,
     Quoted(u8),
     Inside,
 }
+
+/// The items of a list between commas that stand in no quotes; `None` behind the last one.
+#[derive(Debug, Drop)]
+pub struct Items<'a>(pub Option<&'a [u8]>);
 
 impl Attributes {
     /// No attributes.
@@ -64,38 +68,25 @@ impl Attributes {
     };
 }
 
-/// Where reading stands behind a byte.
-fn after(spot: Spot, byte: u8) -> Spot
-    ensures { result ≡ after spot byte }
-{
-    match spot {
-        Spot::Quoted(quote) => { if byte == quote { Spot::Inside } else { spot } }
-        Spot::Front => {
-            if byte == b'"' || byte == b'\'' {
-                Spot::Quoted(byte)
-            } else if byte == b' ' || byte == b'\t' || byte == b'=' {
-                Spot::Front
-            } else {
-                Spot::Inside
-            }
-        }
-        Spot::Inside => {
-            if byte == b'=' {
-                Spot::Front
-            } else {
-                Spot::Inside
-            }
+impl Spot {
+    /// Where reading stands behind a byte.
+    fn after(self, byte: u8) -> Spot
+        ensures { result ≡ after self byte }
+    {
+        match (self, byte) {
+            (Spot::Quoted(quote), _) if byte == quote => Spot::Inside,
+            (Spot::Quoted(_), _) => self,
+            (Spot::Front, b'"' | b'\'') => Spot::Quoted(byte),
+            (Spot::Front, b' ' | b'\t' | b'=') | (Spot::Inside, b'=') => Spot::Front,
+            (Spot::Front | Spot::Inside, _) => Spot::Inside,
         }
     }
-}
 
-/// Whether a comma ends the item here: it does outside of quotes.
-fn ends_item(spot: Spot, byte: u8) -> bool
-    ensures { result ≡ ends_item spot byte }
-{
-    match spot {
-        Spot::Quoted(_) => false,
-        _ => byte == b',',
+    /// Whether a comma ends the item here: it does outside of quotes.
+    fn ends_item(self, byte: u8) -> bool
+        ensures { result ≡ ends_item self byte }
+    {
+        byte == b',' && !matches!(self, Spot::Quoted(_))
     }
 }
 
@@ -104,58 +95,54 @@ fn item_size(list: &[u8]) -> usize
     ensures value { result ≡ item_size Spot.Front list.now }
     ensures within { result ≤ length list.now }
 {
+    // A loop and not a chain: each byte moves the spot, by which the next one is read.
     let mut spot = Spot::Front;
     for (i, byte) in list.iter().enumerate() {
-        if ends_item(spot, *byte) {
+        if spot.ends_item(*byte) {
             return i;
         }
-        spot = after(spot, *byte);
+        spot = spot.after(*byte);
     }
     list.len()
 }
 
-/// Whether a byte ends an option of the shorthand: `#` and `.` do, since they begin an id and a role.
-fn is_option_end(byte: u8) -> bool
-    ensures { result ≡ is_option_end byte }
-{
-    byte == b'#' || byte == b'.'
-}
+impl<'a> Iterator for Items<'a> {
+    type Item = &'a [u8];
 
-/// How many bytes an option of the shorthand has.
-fn option_size(bytes: &[u8]) -> usize
-    ensures value { result ≡ option_size bytes.now }
-    ensures within { result ≤ length bytes.now }
-{
-    for (i, byte) in bytes.iter().enumerate() {
-        if is_option_end(*byte) {
-            return i;
-        }
+    ghost next_gives = { YieldsFirstRef items_left };
+
+    ghost remaining = { item_count items_left };
+
+    fn next(&mut self) -> Option<&'a [u8]> {
+        let list = self.0?;
+        let (item, more) = list.split_at(item_size(list));
+        self.0 = more.get(1..);
+        Some(item)
     }
-    bytes.len()
 }
 
-/// The option that a part of a shorthand behind a `%` names.
+/// The option that a part of a shorthand behind a `%` names: a `#` or a `.` behind it begins an id or a role.
 fn option_in(part: &[u8]) -> &[u8]
     ensures { result.now ≡ option_in part.now }
 {
-    let (name, _) = part.split_at(option_size(part));
-    trim(name)
+    let size = part
+        .iter()
+        .take_while(|byte| !matches!(**byte, b'#' | b'.'))
+        .count();
+    trim(&part[..size])
 }
 
-/// What attribute a name is of.
-fn name_of(name: &[u8]) -> Name
+/// What attribute a name is of, if it is one of those.
+// This and the next two are no `TryFrom`: that a text names nothing is no error, and an `Option` says it.
+fn name_of(name: &[u8]) -> Option<Name>
     ensures { result ≡ name_of name.now }
 {
-    if same(name, b"cols") {
-        Name::Cols
-    } else if same(name, b"options") || same(name, b"opts") {
-        Name::Options
-    } else if same(name, b"format") {
-        Name::Format
-    } else if same(name, b"separator") {
-        Name::Separator
-    } else {
-        Name::Other
+    match name {
+        b"cols" => Some(Name::Cols),
+        b"options" | b"opts" => Some(Name::Options),
+        b"format" => Some(Name::Format),
+        b"separator" => Some(Name::Separator),
+        _ => None,
     }
 }
 
@@ -163,16 +150,12 @@ fn name_of(name: &[u8]) -> Name
 fn format_named(value: &[u8]) -> Option<FormatName>
     ensures { result ≡ format_named value.now }
 {
-    if same(value, b"psv") {
-        Some(FormatName::Psv)
-    } else if same(value, b"csv") {
-        Some(FormatName::Csv)
-    } else if same(value, b"tsv") {
-        Some(FormatName::Tsv)
-    } else if same(value, b"dsv") {
-        Some(FormatName::Dsv)
-    } else {
-        None
+    match value {
+        b"psv" => Some(FormatName::Psv),
+        b"csv" => Some(FormatName::Csv),
+        b"tsv" => Some(FormatName::Tsv),
+        b"dsv" => Some(FormatName::Dsv),
+        _ => None,
     }
 }
 
@@ -182,35 +165,19 @@ fn separator_of(value: &[u8]) -> Option<u8>
 {
     match value {
         [only] => Some(*only),
-        [first, second] => {
-            if *first == b'\\' && *second == b't' {
-                Some(b'\t')
-            } else {
-                None
-            }
-        }
+        b"\\t" => Some(b'\t'),
         _ => None,
     }
-}
-
-/// Whether a value stands in quotes of one kind.
-fn is_quoted(value: &[u8]) -> bool
-    ensures { result ≡ is_quoted value.now }
-{
-    let n = value.len();
-    n >= 2 && value[0] == value[n - 1] && (value[0] == b'"' || value[0] == b'\'')
 }
 
 /// A value without the quotes around it.
 fn unquoted(value: &[u8]) -> &[u8]
     ensures { result.now ≡ unquoted value.now }
 {
-    if !is_quoted(value) {
-        return value;
+    match value {
+        [b'"', inner @ .., b'"'] | [b'\'', inner @ .., b'\''] => inner,
+        _ => value,
     }
-    let (front, _) = value.split_at(value.len() - 1);
-    let (_, inner) = front.split_at(1);
-    inner
 }
 
 impl Options {
@@ -219,9 +186,9 @@ impl Options {
         ensures { result ≡ with_option self name.now }
     {
         Options {
-            header: self.header || same(name, b"header"),
-            noheader: self.noheader || same(name, b"noheader"),
-            footer: self.footer || same(name, b"footer"),
+            header: self.header || name == b"header".as_slice(),
+            noheader: self.noheader || name == b"noheader".as_slice(),
+            footer: self.footer || name == b"footer".as_slice(),
         }
     }
 
@@ -229,32 +196,17 @@ impl Options {
     fn with_list(self, list: &[u8]) -> Options
         ensures { result ≡ with_options self list.now }
     {
-        let mut options = self;
-        let mut rest = list;
-        loop {
-            let (name, more) = rest.split_at(find(rest, b','));
-            options = options.with(trim(name));
-            if more.len() == 0 {
-                return options;
-            }
-            let (_, behind) = more.split_at(1);
-            rest = behind;
-        }
+        list.split(|byte| *byte == b',')
+            .fold(self, |options, name| options.with(trim(name)))
     }
 
     /// With the options of a shorthand such as `%header%footer`; what stands before the first `%` is passed over.
     fn with_shorthand(self, item: &[u8]) -> Options
         ensures { result ≡ with_shorthand self item.now }
     {
-        let mut options = self;
-        let (_, mut rest) = item.split_at(find(item, b'%'));
-        while rest.len() > 0 {
-            let (_, behind) = rest.split_at(1);
-            let (part, more) = behind.split_at(find(behind, b'%'));
-            options = options.with(option_in(part));
-            rest = more;
-        }
-        options
+        item.split(|byte| *byte == b'%')
+            .skip(1)
+            .fold(self, |options, part| options.with(option_in(part)))
     }
 }
 
@@ -272,21 +224,14 @@ impl Attributes {
                 options: self.options.with_list(value),
                 ..self
             },
-            Name::Format => match format_named(value) {
-                Some(format) => Attributes {
-                    format: Some(format),
-                    ..self
-                },
-                None => self,
+            Name::Format => Attributes {
+                format: format_named(value).or(self.format),
+                ..self
             },
-            Name::Separator => match separator_of(value) {
-                Some(byte) => Attributes {
-                    separator: Some(byte),
-                    ..self
-                },
-                None => self,
+            Name::Separator => Attributes {
+                separator: separator_of(value).or(self.separator),
+                ..self
             },
-            Name::Other => self,
         }
     }
 
@@ -294,37 +239,27 @@ impl Attributes {
     fn with_item(self, item: &[u8], first: bool) -> Attributes
         ensures { said result ≡ with_item (said self) item.now first }
     {
-        let (name, more) = item.split_at(find(item, b'='));
-        if more.len() > 0 {
-            let (_, value) = more.split_at(1);
-            return self.with_value(name_of(trim(name)), unquoted(trim(value)));
-        }
-        if first {
-            return Attributes {
+        match item.split_at(find(item, b'=')) {
+            (name, [_, value @ ..]) => match name_of(trim(name)) {
+                Some(name) => self.with_value(name, unquoted(trim(value))),
+                None => self,
+            },
+            (_, []) if first => Attributes {
                 options: self.options.with_shorthand(item),
                 ..self
-            };
+            },
+            (_, []) => self,
         }
-        self
     }
 
     /// With the items of a list between commas.
     fn with_list(self, list: &[u8]) -> Attributes
         ensures { said result ≡ with_list (said self) list.now }
     {
-        let mut attributes = self;
-        let mut rest = list;
-        let mut first = true;
-        loop {
-            let (item, more) = rest.split_at(item_size(rest));
-            attributes = attributes.with_item(trim(item), first);
-            if more.len() == 0 {
-                return attributes;
-            }
-            let (_, behind) = more.split_at(1);
-            rest = behind;
-            first = false;
-        }
+        Items(Some(list)).enumerate().fold(
+            self,
+            |attributes, (i, item)| attributes.with_item(trim(item), i == 0),
+        )
     }
 
     /// With what an attribute line says: one that begins with `[`, but not with `[[`, and ends with `]`, blanks at its
@@ -333,11 +268,9 @@ impl Attributes {
         ensures { said result ≡ with_line (said self) line.now }
     {
         let bytes = trim_end(line);
-        if bytes.len() < 2 || !is_attribute_line(bytes) {
-            return self;
+        match bytes {
+            [_, list @ .., _] if is_attribute_line(bytes) => self.with_list(list),
+            _ => self,
         }
-        let (front, _) = bytes.split_at(bytes.len() - 1);
-        let (_, list) = front.split_at(1);
-        self.with_list(list)
     }
 }

@@ -1,59 +1,36 @@
 // Tests of a few bytes and searches among them, which the rules of lines and of attributes share.
 ghost use Rattle.std.specs.Prelude.{◌≡◌, ◌≤◌, length};
-ghost use Rattle.std.specs.Str.{bytes_eq};
-ghost use Rattle.document.specs.Bytes.{is_blank, is_digit, all_of, all_digits, before, leading_digits, trim_start, trim_end, trim, value_of};
+ghost use Rattle.document.specs.Bytes.{is_blank, all_of, all_digits, before, leading_digits, trim_start, trim_end, trim, with_digit, value_of};
 
 /// Whether a byte is a space, a tab or a carriage return.
 pub fn is_blank(byte: u8) -> bool
     ensures { result ≡ is_blank byte }
 {
-    byte == b' ' || byte == b'\t' || byte == b'\r'
-}
-
-/// Whether a byte is one of `0` to `9`.
-pub fn is_digit(byte: u8) -> bool
-    ensures { result ≡ is_digit byte }
-{
-    byte >= b'0' && byte <= b'9'
-}
-
-/// Whether two texts have the same bytes.
-pub fn same(left: &[u8], right: &[u8]) -> bool
-    ensures { result ≡ bytes_eq left.now right.now }
-{
-    left == right
+    matches!(byte, b' ' | b'\t' | b'\r')
 }
 
 /// Whether every byte is this one.
 pub fn all_of(bytes: &[u8], byte: u8) -> bool
     ensures { result ≡ all_of byte bytes.now }
 {
-    for x in bytes {
-        if *x != byte {
-            return false;
-        }
-    }
-    true
+    bytes.iter().all(|x| *x == byte)
 }
 
 /// Whether every byte is a digit.
+// Crate `sheet` has this test too, in a line of its own: neither crate rests on the other.
 pub fn all_digits(bytes: &[u8]) -> bool
     ensures { result ≡ all_digits bytes.now }
 {
-    leading_digits(bytes) == bytes.len()
+    bytes.iter().all(|byte| byte.is_ascii_digit())
 }
 
 /// How many bytes stand before the first one that is `byte`: all of them where there is none.
+// The length says "none" and no `Option` does: all who call this cut the text there in either case.
 pub fn find(bytes: &[u8], byte: u8) -> usize
     ensures value { result ≡ before byte bytes.now }
     ensures within { result ≤ length bytes.now }
 {
-    for (i, x) in bytes.iter().enumerate() {
-        if *x == byte {
-            return i;
-        }
-    }
-    bytes.len()
+    bytes.iter().take_while(|x| **x != byte).count()
 }
 
 /// How many digits stand at the front.
@@ -61,47 +38,48 @@ pub fn leading_digits(bytes: &[u8]) -> usize
     ensures value { result ≡ leading_digits bytes.now }
     ensures within { result ≤ length bytes.now }
 {
-    for (i, x) in bytes.iter().enumerate() {
-        if !is_digit(*x) {
-            return i;
-        }
-    }
-    bytes.len()
+    bytes
+        .iter()
+        .take_while(|byte| byte.is_ascii_digit())
+        .count()
+}
+
+/// A number with one more digit behind its others, or the largest `usize` where that is less.
+fn with_digit(number: usize, digit: u8) -> usize
+    ensures { result ≡ with_digit number digit }
+{
+    number
+        .saturating_mul(10)
+        .saturating_add(usize::from(digit.saturating_sub(b'0')))
 }
 
 /// The number that digits write, or the largest `usize` where that is less.
 pub fn value_of(digits: &[u8]) -> usize
     ensures { result ≡ value_of digits.now }
 {
-    let mut value: usize = 0;
-    for digit in digits {
-        value = value
-            .saturating_mul(10)
-            .saturating_add(digit.saturating_sub(b'0') as usize);
-    }
-    value
+    digits
+        .iter()
+        .fold(0, |number, digit| with_digit(number, *digit))
 }
 
 /// The bytes without the blanks at their front.
 pub fn trim_start(bytes: &[u8]) -> &[u8]
     ensures { result.now ≡ trim_start bytes.now }
 {
-    let mut start = 0;
-    while start < bytes.len() && is_blank(bytes[start]) {
-        start += 1;
-    }
-    &bytes[start..]
+    let blanks = bytes.iter().take_while(|byte| is_blank(**byte)).count();
+    &bytes[blanks..]
 }
 
 /// The bytes without the blanks at their end.
 pub fn trim_end(bytes: &[u8]) -> &[u8]
     ensures { result.now ≡ trim_end bytes.now }
 {
-    let mut end = bytes.len();
-    while end > 0 && is_blank(bytes[end - 1]) {
-        end -= 1;
-    }
-    &bytes[0..end]
+    let blanks = bytes
+        .iter()
+        .rev()
+        .take_while(|byte| is_blank(**byte))
+        .count();
+    &bytes[..bytes.len() - blanks]
 }
 
 /// The bytes without the blanks around them.

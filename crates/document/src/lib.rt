@@ -21,10 +21,9 @@ mod table;
 
 pub use attributes::{Attributes, FormatName, Options};
 pub use blocks::find_tables;
-pub use columns::{
-    ASCIIDOC, Columns, DEFAULT, EMPHASIS, HEADER, LITERAL, MAX_STYLES, MONOSPACE, STRONG,
-};
+pub use columns::{Columns, MAX_STYLES};
 pub use lines::{Place, place_of};
+pub use styles::Style;
 pub use table::{Format, Outline, Table};
 
 #[cfg(test)]

@@ -1,43 +1,85 @@
-// One line of a text at a time, and the place of a byte by its line and its column.
-ghost use Rattle.std.specs.Prelude.{◌≡◌, ◌+◌, ◌<◌, ◌≤◌, length, take};
-ghost use Rattle.document.specs.Lines.{line_at, next_at, feeds, behind_feed};
+// The lines of a text, one after the other, and the place of a byte by its line and its column.
+ghost use Rattle.std.specs.Prelude.{◌≡◌, ◌+◌, ◌<◌, ◌≤◌, true, length, take};
+ghost use Rattle.document.specs.Lines.{is_line_start, feeds, behind_feed};
 
 use crate::bytes::{find, trim_end};
 
 /// A line of a text.
-#[derive(Clone, Copy)]
+#[derive(Clone, Copy, Debug)]
 pub struct Line<'a> {
     /// its bytes, without its line feed and without the blanks at its end
     pub bytes: &'a [u8],
+    /// where it begins
+    pub start: usize,
     /// where the next line begins, or the text's end
     pub next: usize,
+    /// how many lines stand before it
+    pub before: usize,
+    ghost few: { before ≤ start },
+}
+
+/// The lines of a text that are left: those from an offset on, at which one begins, or none at the text's end.
+#[derive(Debug, Drop)]
+pub struct Lines<'a> {
+    pub text: &'a [u8],
+    pub at: usize,
+    /// how many lines stand before them
+    pub before: usize,
+    ghost within: { at ≤ length text.now },
+    ghost few: { before ≤ at },
+    ghost begins: { at < length text.now → is_line_start text.now at ≡ true },
+    ghost counted: { at < length text.now → before ≡ feeds (take at text.now) },
 }
 
 /// Where a byte stands: the number of its line and its number in that line, both from 1 on.
-#[derive(Clone, Copy)]
+#[derive(Clone, Copy, Debug, PartialEq, Eq, Hash)]
 pub struct Place {
     pub line: usize,
     pub column: usize,
 }
 
-/// The line of a text that begins at `start`.
-pub fn line_at(text: &[u8], start: usize) -> Line<'_>
-    requires { start ≤ length text.now }
-    ensures bytes { result.bytes.now ≡ line_at text.now start }
-    ensures next { result.next ≡ next_at text.now start }
-    ensures forward { start < length text.now → start < result.next }
-    ensures within { result.next ≤ length text.now }
-{
-    let (_, rest) = text.split_at(start);
-    let size = find(rest, b'\n');
-    let (line, _) = rest.split_at(size);
-    let bytes = trim_end(line);
-    let next = if size < rest.len() {
-        start + size + 1
-    } else {
-        text.len()
-    };
-    Line { bytes, next }
+impl<'a> Lines<'a> {
+    /// All lines of a text.
+    pub fn new(text: &'a [u8]) -> Lines<'a>
+        ensures text { result.text.now ≡ text.now }
+        ensures at { result.at ≡ 0 }
+        ensures before { result.before ≡ 0 }
+    {
+        Lines {
+            text,
+            at: 0,
+            before: 0,
+        }
+    }
+}
+
+impl<'a> Iterator for Lines<'a> {
+    ghost use Rattle.document.specs.Walks.{Advances, bytes_left};
+
+    type Item = Line<'a>;
+
+    ghost next_gives = { Advances };
+
+    ghost remaining = { bytes_left };
+
+    fn next(&mut self) -> Option<Line<'a>> {
+        let start = self.at;
+        if start == self.text.len() {
+            return None;
+        }
+        let rest = &self.text[start..];
+        let size = find(rest, b'\n');
+        let next = self.text.len().min(start + size + 1);
+        let before = self.before;
+        self.at = next;
+        self.before = before + 1;
+        Some(Line {
+            bytes: trim_end(&rest[..size]),
+            start,
+            next,
+            before,
+        })
+    }
 }
 
 /// The place of the byte at an offset; an offset at or past the end has the place behind the last byte.
@@ -45,16 +87,11 @@ pub fn place_of(text: &[u8], offset: usize) -> Place
     ensures line { result.line ≡ 1 + feeds (take offset text.now) }
     ensures column { result.column ≡ 1 + behind_feed (take offset text.now) }
 {
-    let (head, _) = text.split_at(offset.min(text.len()));
-    let mut line = 1;
-    let mut column = 1;
-    for byte in head {
-        if *byte == b'\n' {
-            line += 1;
-            column = 1;
-        } else {
-            column += 1;
-        }
+    let head = &text[..offset.min(text.len())];
+    let feeds = head.iter().filter(|byte| **byte == b'\n').count();
+    let behind = head.iter().rev().take_while(|byte| **byte != b'\n').count();
+    Place {
+        line: 1 + feeds,
+        column: 1 + behind,
     }
-    Place { line, column }
 }

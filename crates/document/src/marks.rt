@@ -1,11 +1,11 @@
 // What a line is to the search for tables. A line is given without its line feed and without the blanks at its end.
 ghost use Rattle.std.specs.Prelude.{◌≡◌};
-ghost use Rattle.document.specs.Marks.{is_table_mark, is_verbatim_mark, is_table_line, is_verbatim_line, is_bracketed, is_attribute_line, begins_anchor, ends_anchor, is_title, is_comment, is_aside, kind_of};
+ghost use Rattle.document.specs.Marks.{is_table_line, is_verbatim_line, is_bracketed, is_attribute_line, begins_anchor, ends_anchor, is_title, is_comment, is_aside, kind_of};
 
 use crate::bytes::all_of;
 
 /// What a line is, where it stands outside of every block.
-#[derive(Clone, Copy)]
+#[derive(Clone, Copy, Debug, PartialEq, Eq, Hash)]
 pub enum LineKind {
     /// opens a table
     Table,
@@ -19,86 +19,59 @@ pub enum LineKind {
     Text,
 }
 
-/// Whether a byte begins the delimiter lines of tables.
-fn is_table_mark(byte: u8) -> bool
-    ensures { result ≡ is_table_mark byte }
-{
-    byte == b'|' || byte == b',' || byte == b':' || byte == b'!'
-}
-
-/// Whether a byte makes the delimiter lines of blocks whose text is taken as it stands.
-fn is_verbatim_mark(byte: u8) -> bool
-    ensures { result ≡ is_verbatim_mark byte }
-{
-    byte == b'-' || byte == b'.' || byte == b'/' || byte == b'+'
-}
-
-/// Whether a line is a mark of tables and three or more `=`.
+/// Whether a line is a mark of tables, which is one of `|` `,` `:` `!`, and three or more `=`.
 fn is_table_line(line: &[u8]) -> bool
     ensures { result ≡ is_table_line line.now }
 {
-    if line.len() < 4 {
-        return false;
+    match line {
+        [b'|' | b',' | b':' | b'!', rest @ ..] => rest.len() >= 3 && all_of(rest, b'='),
+        _ => false,
     }
-    let (_, rest) = line.split_at(1);
-    is_table_mark(line[0]) && all_of(rest, b'=')
 }
 
-/// Whether a line is four or more of one mark of verbatim blocks.
+/// Whether a line is four or more of one mark of verbatim blocks, which is one of `-` `.` `/` `+`.
 fn is_verbatim_line(line: &[u8]) -> bool
     ensures { result ≡ is_verbatim_line line.now }
 {
-    line.len() >= 4 && is_verbatim_mark(line[0]) && all_of(line, line[0])
+    match line {
+        [mark @ (b'-' | b'.' | b'/' | b'+'), rest @ ..] => rest.len() >= 3 && all_of(rest, *mark),
+        _ => false,
+    }
 }
 
 /// Whether a line is a `.` and then a byte that is neither a space, a tab nor a `.`.
 fn is_title(line: &[u8]) -> bool
     ensures { result ≡ is_title line.now }
 {
-    match line {
-        [first, second, ..] => *first == b'.'
-            && *second != b' '
-            && *second != b'\t'
-            && *second != b'.',
-        _ => false,
-    }
+    matches!(line, [b'.', second, ..] if !matches!(*second, b' ' | b'\t' | b'.'))
 }
 
 /// Whether a line begins with `//` and not with `///`.
 fn is_comment(line: &[u8]) -> bool
     ensures { result ≡ is_comment line.now }
 {
-    match line {
-        [first, second] => *first == b'/' && *second == b'/',
-        [first, second, third, ..] => *first == b'/' && *second == b'/' && *third != b'/',
-        _ => false,
-    }
+    line.starts_with(b"//") && !line.starts_with(b"///")
 }
 
 /// Whether a line begins with `[[`.
 fn begins_anchor(line: &[u8]) -> bool
     ensures { result ≡ begins_anchor line.now }
 {
-    match line {
-        [first, second, ..] => *first == b'[' && *second == b'[',
-        _ => false,
-    }
+    line.starts_with(b"[[")
 }
 
 /// Whether a line ends with `]]`.
 fn ends_anchor(line: &[u8]) -> bool
     ensures { result ≡ ends_anchor line.now }
 {
-    let n = line.len();
-    n >= 2 && line[n - 1] == b']' && line[n - 2] == b']'
+    line.ends_with(b"]]")
 }
 
 /// Whether a line stands in brackets: it begins with `[` and ends with `]`.
 fn is_bracketed(line: &[u8]) -> bool
     ensures { result ≡ is_bracketed line.now }
 {
-    let n = line.len();
-    n >= 2 && line[0] == b'[' && line[n - 1] == b']'
+    matches!(line, [b'[', .., b']'])
 }
 
 /// Whether a line stands in brackets and does not begin with `[[`.
@@ -112,10 +85,10 @@ pub fn is_attribute_line(line: &[u8]) -> bool
 fn is_aside(line: &[u8]) -> bool
     ensures { result ≡ is_aside line.now }
 {
-    if line.is_empty() || is_title(line) || is_comment(line) {
-        return true;
-    }
-    begins_anchor(line) && ends_anchor(line)
+    line.is_empty()
+        || is_title(line)
+        || is_comment(line)
+        || begins_anchor(line) && ends_anchor(line)
 }
 
 /// What a line is.

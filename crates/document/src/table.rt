@@ -1,13 +1,13 @@
 // The records of a document's tables, and how a table's format and separator are chosen.
 ghost use Rattle.std.specs.Prelude.{◌≡◌};
-ghost use Rattle.document.specs.Tables.{format_of, separator_for, begins_blank, first_one_line};
+ghost use Rattle.document.specs.Tables.{format_of, separator_for, is_blank_line, begins_blank, first_one_line};
 
 use crate::attributes::{FormatName, Options};
 use crate::bytes::{find, trim_end};
 use crate::columns::Columns;
 
 /// How the cells of a table are written.
-#[derive(Clone, Copy)]
+#[derive(Clone, Copy, Debug, PartialEq, Eq, Hash)]
 pub enum Format {
     /// a separator in front of each cell
     Prefix,
@@ -18,7 +18,7 @@ pub enum Format {
 }
 
 /// A table block. Lines are numbered from 1 on, and offsets count the bytes of the text before them.
-#[derive(Clone, Copy)]
+#[derive(Clone, Copy, Debug)]
 pub struct Table {
     /// the line that opens the block
     pub open_line: usize,
@@ -31,6 +31,7 @@ pub struct Table {
     /// where the content ends, which is where the closing line begins
     pub end: usize,
     /// the first byte of the delimiter lines: `|` `,` `:` or `!`
+    // A byte and not an enum: it is the separator too where no attribute gives one.
     pub mark: u8,
     pub format: Format,
     pub separator: u8,
@@ -44,7 +45,7 @@ pub struct Table {
 }
 
 /// What is found in a document.
-#[derive(Drop)]
+#[derive(Debug, Drop)]
 pub struct Outline {
     /// the tables, in the order of the text
     pub tables: Vec<Table>,
@@ -58,18 +59,13 @@ pub fn format_of(name: Option<FormatName>, mark: u8) -> Format
 {
     match name {
         Some(FormatName::Psv) => Format::Prefix,
-        Some(FormatName::Csv) => Format::Csv,
-        Some(FormatName::Tsv) => Format::Csv,
+        Some(FormatName::Csv | FormatName::Tsv) => Format::Csv,
         Some(FormatName::Dsv) => Format::Dsv,
-        None => {
-            if mark == b',' {
-                Format::Csv
-            } else if mark == b':' {
-                Format::Dsv
-            } else {
-                Format::Prefix
-            }
-        }
+        None => match mark {
+            b',' => Format::Csv,
+            b':' => Format::Dsv,
+            _ => Format::Prefix,
+        },
     }
 }
 
@@ -77,24 +73,27 @@ pub fn format_of(name: Option<FormatName>, mark: u8) -> Format
 pub fn separator_for(separator: Option<u8>, name: Option<FormatName>, mark: u8) -> u8
     ensures { result ≡ separator_for separator name mark }
 {
-    if let Some(byte) = separator {
-        return byte;
-    }
-    match name {
+    separator.unwrap_or(match name {
         Some(FormatName::Psv) => b'|',
         Some(FormatName::Csv) => b',',
         Some(FormatName::Tsv) => b'\t',
         Some(FormatName::Dsv) => b':',
         None => mark,
-    }
+    })
+}
+
+/// Whether a line has nothing but blanks.
+fn is_blank_line(line: &[u8]) -> bool
+    ensures { result ≡ is_blank_line line.now }
+{
+    trim_end(line).is_empty()
 }
 
 /// Whether a text begins with a blank line, or has none.
 pub fn begins_blank(text: &[u8]) -> bool
     ensures { result ≡ begins_blank text.now }
 {
-    let (line, _) = text.split_at(find(text, b'\n'));
-    trim_end(line).len() == 0
+    is_blank_line(&text[..find(text, b'\n')])
 }
 
 /// Whether the first paragraph of a text is one line: the lines before the first blank one, blank lines in front left
@@ -102,17 +101,9 @@ pub fn begins_blank(text: &[u8]) -> bool
 pub fn first_one_line(text: &[u8]) -> bool
     ensures { result ≡ first_one_line text.now }
 {
-    let mut rest = text;
-    loop {
-        let (_, more) = rest.split_at(find(rest, b'\n'));
-        let blank = begins_blank(rest);
-        if more.len() == 0 {
-            return !blank;
-        }
-        let (_, behind) = more.split_at(1);
-        if !blank {
-            return begins_blank(behind);
-        }
-        rest = behind;
-    }
+    let mut blanks = text
+        .split(|byte| *byte == b'\n')
+        .map(|line| is_blank_line(line))
+        .skip_while(|blank| *blank);
+    blanks.next().is_some() && blanks.next().unwrap_or(true)
 }

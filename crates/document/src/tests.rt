@@ -1,5 +1,4 @@
 // What comes of small documents, lines and texts.
-use crate::bytes::same;
 use crate::table::first_one_line;
 use crate::*;
 use std::test::Fail;
@@ -56,7 +55,7 @@ fn in_force(rt: HostRuntime) -> Result<(), Fail> {
     let first = found.tables[0];
     assert_eq!(rt; (first.columns.count, first.options.header), (2, true));
     assert_eq!(rt; (first.open_line, first.close_line), (7, 9));
-    assert!(rt; matches!(first.format, Format::Dsv));
+    assert_eq!(rt; first.format, Format::Dsv);
     let second = found.tables[1];
     assert_eq!(rt; (second.columns.count, second.options.header), (0, false));
     assert_eq!(rt; second.end, second.start);
@@ -73,13 +72,22 @@ fn attribute_lines(rt: HostRuntime) {
         (3, true, true)
     );
     assert_eq!(rt; (a.options.noheader, a.separator), (false, Some(b';')));
-    assert!(rt; matches!(a.format, Some(FormatName::Csv)));
+    assert_eq!(rt; a.format, Some(FormatName::Csv));
     let b = a.with_line(b"[%noheader.role, cols = '1;2*m;a' , separator=\\t]");
     assert_eq!(rt;
         (b.columns.count, b.options.noheader, b.separator),
         (4, true, Some(b'\t'))
     );
-    assert!(rt; same(b.columns.kept(), &[DEFAULT, MONOSPACE, MONOSPACE, ASCIIDOC]));
+    assert!(rt;
+        b.columns.kept()
+            == [
+                Style::Default,
+                Style::Monospace,
+                Style::Monospace,
+                Style::AsciiDoc
+            ]
+            .as_slice()
+    );
 }
 
 #[test]

@@ -6,12 +6,12 @@ ghost use Rattle.guests.specs.EachTokenCutterLemmas.{each_fits, each_first};
 ghost use Rattle.std.specs.Prelude.{refl};
 
 use cut::{Cut, CutRefusal, Cutter, Note};
-use sheet::{Piece, Place, Position, Sheet, kind};
+use sheet::{Kind, Piece, Place, Position, Sheet};
 use starts::Specifier;
 use store::Store;
 
 /// Cuts a page into its tokens: each is a cell, and a Newline is one that meets a line end.
-#[derive(Clone, Copy)]
+#[derive(Clone, Copy, Debug, Default, PartialEq, Eq, Hash)]
 pub struct EachToken;
 
 impl Cutter for EachToken {
@@ -28,33 +28,20 @@ impl Cutter for EachToken {
         pieces: &mut Store<'_, Piece>,
         _notes: &mut Store<'_, Note>,
     ) -> Result<Option<Cut>, CutRefusal> {
-        let Some(seen) = sheet.see(Place {
-            token: at.token,
-            offset: at.offset,
-        }) else {
+        // No `?`: where nothing is left, the answer is `Ok(None)`.
+        let Some(seen) = sheet.see(Place::from(at)) else {
             return Ok(None);
         };
-        let piece = Piece {
-            token: at.token as u32,
-            offset: at.offset as u32,
-            length: seen.bytes.len() as u32,
-        };
-        let Ok(_) = pieces.push(piece) else {
-            return Err(CutRefusal::NoRoom);
-        };
+        pieces.push(seen.piece()).map_err(|_| CutRefusal::NoRoom)?;
         Ok(Some(Cut {
-            first: at.token,
+            first: seen.place.token,
             specifier: Specifier::NOTHING,
-            line_end: seen.kind == kind::NEWLINE,
+            line_end: seen.kind == Kind::Newline,
             blank_after: false,
             blank_inside: false,
             notes: 0,
             first_note: None,
-            rest: Position {
-                token: at.token + 1,
-                offset: 0,
-                separated: false,
-            },
+            rest: seen.behind().position(false),
         }))
     }
 }

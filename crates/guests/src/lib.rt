@@ -1,4 +1,4 @@
-// A cutter and a builder as a stranger would write them, from the interfaces alone.
+// A cutter as a stranger would write it, from the interface alone.
 #![tactic(auto)]
 
 pub mod each;

@@ -1,27 +1,27 @@
 -- From a text cut token by token: the bytes joined are the text, and every token is sound.
 -- Assumes nothing.
-use Rattle.std.proofs.Common.{◌≡◌, ℕ, zero, suc, ◌+◌, ◌<◌, ◌≤◌, Bool, true, false, cond, not, ◌&&◌, ◌||◌, eqb, ltb, leb, List, [], ◌∷◌, ◌++◌, length, take, drop, is_some, Some, None, Option, sym, refl, ap, ◌∙◌, subst, ⊎_elim, append_assoc, append-nil, arith, length-drop, take-append-drop}
+use Rattle.std.proofs.Common.{◌≡◌, ℕ, zero, suc, ◌+◌, ◌<◌, ◌≤◌, Bool, true, false, cond, not, ◌&&◌, ◌||◌, eqb, ltb, leb, List, [], ◌∷◌, length, take, drop, is_some, Some, None, Option, unwrap_or, sym, refl, ap, ◌∙◌, subst, ⊎_elim, arith, length-drop, take-append-drop}
 use Rattle.std.specs.List.{flat_map}
+use Rattle.std.specs.Iterator.{Yields, DrainsIf}
 use Rattle.std.proofs.lemmas.List.{drop-drop, drop_all}
-use Rattle.std.proofs.lemmas.Bool.{lt-ltb, le-leb, lt-leb, ne_eqb, eqb-true, and_from, and_parts, and_right, or_from, or_right, or_cases, cond-true, cond-false, cases_Bool, cases_eq, cases_lt, both_ways, false≢true}
+use Rattle.std.proofs.lemmas.Bool.Decides.{nat_tests}
+use Rattle.std.proofs.lemmas.Grind.{common_steps}
+use Rattle.std.proofs.lemmas.Bool.{lt-ltb, le-leb, eqb-true, and_from, and_parts, and_right, or_cases, cases_Bool, both_ways}
 use Rattle.sheet.specs.Kinds.{callout_number, digits, newline, word}
-use Rattle.sheet.specs.Sound.{is_kind, is_digit, all_digits, one_byte, just_one_byte, bytes_fit, flag_fits, sound_token, all_sound, token_bytes}
+use Rattle.sheet.specs.Sound.{is_kind, is_digit, all_digits, one_byte, bytes_fit, flag_fits, sound_token, all_sound, token_bytes}
 use Rattle.sheet.specs.declared.records.Token.{Token}
-use Rattle.lexer.specs.Kinds.{is_blank, is_letter, kind_of, joins}
+use Rattle.lexer.specs.Kinds.{kind_of, joins}
 use Rattle.lexer.specs.Front.{run, callout, plain_length, front_kind, front_length, front}
 use Rattle.lexer.specs.Lexed.{Cut, Lexed}
+use Rattle.lexer.specs.Tokens.{TakesToken}
+use Rattle.lexer.specs.declared.lexing.Tokens.{Tokens}
 use Rattle.lexer.proofs.Fronts.{front_bounds}
 
 -- the bytes of the tokens, joined, are what is left of the text
 whole_from : (text : List ℕ) (at : ℕ) (ts : List Token) → Cut text at ts → flat_map (token_bytes text []) ts ≡ drop at text
 whole_from text at [] h = sym (drop_all at text h)
 whole_from text at (t ∷ ts) (h, e, rest) =
-    let s : t.start ≡ at = ap (λ (x : Token). x.start) e in
-    let f : t.replaced ≡ false = ap (λ (x : Token). x.replaced) e in
-    let here : token_bytes text [] t ≡ take t.length (drop at text) = cc in
-    ap (λ (x : List ℕ). x ++ flat_map (token_bytes text []) ts) here
-    ∙ ap (λ (x : List ℕ). take t.length (drop at text) ++ x) (whole_from text (at + t.length) ts rest ∙ sym (drop-drop t.length at text))
-    ∙ take-append-drop t.length (drop at text)
+    grind (arith, common_steps, whole_from text (at + t.length) ts rest, drop-drop t.length at text, take-append-drop t.length (drop at text))
 
 -- what holds of each byte and its kind: it is a kind; the byte fits it; and a run of it holds digits or is free
 abbrev fits_at : ℕ → ℕ → Bool
@@ -33,11 +33,7 @@ below (suc n) f = f n && below n f
 
 from_below : (f : ℕ → Bool) (n : ℕ) → below n f ≡ true → (k : ℕ) → k < n → f k ≡ true
 from_below f zero h k l = absurd (omega arith)
-from_below f (suc n) h k l =
-    ⊎_elim
-    (λ e. ap f e ∙ (and_parts (f n) (below n f) h).0)
-    (λ ne. from_below f n (and_parts (f n) (below n f) h).1 k (omega arith))
-    (cases_eq k n)
+from_below f (suc n) h k l = grind (arith, nat_tests, from_below f n)
 
 -- the bytes of ASCII, one by one
 ascii : below 128 (λ b. fits_at (kind_of b) b) ≡ true
@@ -45,14 +41,10 @@ ascii = refl
 
 -- a byte past ASCII is part of a Word
 wide : (b : ℕ) → 128 ≤ b → kind_of b ≡ word
-wide b h =
-    cond-false (eqb b 10) _ _ (ne_eqb b 10 (λ e. omega arith))
-    ∙ cond-false (is_blank b) _ _ (or_from (eqb b 32) _ (ne_eqb b 32 (λ e. omega arith)) (or_from (eqb b 9) _ (ne_eqb b 9 (λ e. omega arith)) (ne_eqb b 13 (λ e. omega arith))))
-    ∙ cond-false (is_digit b) _ _ (and_right (leb 48 b) _ (lt-leb b 57 (omega arith)))
-    ∙ cond-true (is_letter b) _ _ (or_right (leb 65 b && leb b 90) _ (or_right (leb 97 b && leb b 122) _ (le-leb 128 b h)))
+wide b h = grind (arith, nat_tests)
 
 each_byte : (b : ℕ) → fits_at (kind_of b) b ≡ true
-each_byte b = ⊎_elim (from_below (λ x. fits_at (kind_of x) x) 128 ascii b) (λ h. ap (λ (k : ℕ). fits_at k b) (wide b h)) (cases_lt b 128)
+each_byte b = grind (arith, nat_tests, from_below (λ x. fits_at (kind_of x) x) 128 ascii b, wide b)
 
 module _ (b : ℕ) where
   known_kind : is_kind (kind_of b) ≡ true
@@ -68,23 +60,22 @@ module _ (b : ℕ) where
 
   -- a byte whose kind is Digits is a digit
   digit_is : kind_of b ≡ digits → is_digit b ≡ true
-  digit_is e = (and_parts (is_digit b) true (ap (λ (k : ℕ). bytes_fit k (b ∷ [])) (sym e) ∙ byte_fits)).0
+  digit_is e = grind (arith, byte_fits)
 
+-- a run of digits holds only digits
 run_digits : (bs : List ℕ) → all_digits (take (run digits bs) bs) ≡ true
 run_digits [] = refl
 run_digits (b ∷ bs) = go (eqb (kind_of b) digits) refl (run_digits bs)
   where
-    go : (t : Bool) → eqb (kind_of b) digits ≡ t → all_digits (take (run digits bs) bs) ≡ true → all_digits (take (cond t (suc (run digits bs)) 0) (b ∷ bs)) ≡ true
-    go true e h = and_from (is_digit b) _ (digit_is b (eqb-true (kind_of b) digits e)) h
+    go : (t : Bool) → eqb (kind_of b) digits ≡ t → all_digits (take (run digits bs) bs) ≡ true → all_digits (take (cond t (1 + run digits bs) 0) (b ∷ bs)) ≡ true
+    go true e h =
+        let one : 1 + run digits bs ≡ suc (run digits bs) = omega arith in
+        ap (λ (n : ℕ). all_digits (take n (b ∷ bs))) one ∙ and_from (is_digit b) _ (digit_is b (eqb-true (kind_of b) digits e)) h
     go false e h = refl
 
 -- bytes of a kind that has no byte of its own are free, and so are none of another than Digits
 free : (k : ℕ) (xs : List ℕ) → eqb k digits ≡ false → not (is_some (one_byte k)) ≡ true → bytes_fit k xs ≡ true
-free k xs d n = cond-false (eqb k digits) _ _ d ∙ go (one_byte k) n
-  where
-    go : (o : Option ℕ) → not (is_some o) ≡ true → just_one_byte o xs ≡ true
-    go None e = refl
-    go (Some x) e = absurd (false≢true e)
+free k xs d n = grind (arith, nat_tests)
 
 -- the whole run at the front fits its kind
 run_bytes_fit : (b : ℕ) (bs : List ℕ) → joins (kind_of b) ≡ true → bytes_fit (kind_of b) (take (run (kind_of b) (b ∷ bs)) (b ∷ bs)) ≡ true
@@ -101,16 +92,16 @@ run_bytes_fit b bs j =
 -- the token at the front has a kind, and its bytes fit that
 front_fits : (bs : List ℕ) → 0 < length bs → (is_kind (front_kind bs) ≡ true) × (bytes_fit (front_kind bs) (take (front_length bs) bs) ≡ true)
 front_fits [] h = absurd (omega arith)
-front_fits (b ∷ bs) h = go (ltb 0 (callout (b ∷ bs)))
+front_fits (b ∷ bs) h = go (callout (b ∷ bs))
   where
     plain : (j : Bool) → joins (kind_of b) ≡ j → bytes_fit (kind_of b) (take (cond j (run (kind_of b) (b ∷ bs)) 1) (b ∷ bs)) ≡ true
     plain true e = run_bytes_fit b bs e
     plain false e = byte_fits b
 
-    go : (t : Bool) → (is_kind (cond t callout_number (kind_of b)) ≡ true)
-        × (bytes_fit (cond t callout_number (kind_of b)) (take (cond t (callout (b ∷ bs)) (plain_length (kind_of b) (b ∷ bs))) (b ∷ bs)) ≡ true)
-    go true = (refl, refl)
-    go false = (known_kind b, plain (joins (kind_of b)) refl)
+    go : (o : Option ℕ) → (is_kind (cond (is_some o) callout_number (kind_of b)) ≡ true)
+        × (bytes_fit (cond (is_some o) callout_number (kind_of b)) (take (unwrap_or o (plain_length (kind_of b) (b ∷ bs))) (b ∷ bs)) ≡ true)
+    go (Some m) = (refl, refl)
+    go None = (known_kind b, plain (joins (kind_of b)) refl)
 
 sound_front : (text replacement : List ℕ) (at : ℕ) → at < length text → sound_token text replacement (front at (drop at text)) ≡ true
 sound_front text replacement at h =
@@ -125,19 +116,18 @@ sound_front text replacement at h =
 
 sound_from : (text replacement : List ℕ) (at : ℕ) (ts : List Token) → Cut text at ts → all_sound text replacement ts ≡ true
 sound_from text replacement at [] h = refl
-sound_from text replacement at (t ∷ ts) (h, e, rest) =
-    and_from (sound_token text replacement t) _ (ap (sound_token text replacement) e ∙ sound_front text replacement at h) (sound_from text replacement (at + t.length) ts rest)
+sound_from text replacement at (t ∷ ts) (h, e, rest) = grind (arith, sound_front text replacement at h, sound_from text replacement (at + t.length) ts rest)
 
 -- a text cut token by token is lexed
 pub lexed : (text : List ℕ) (ts : List Token) → Cut text 0 ts → Lexed text ts
 lexed text ts h = record { cut = h; whole = whole_from text 0 ts h; sound = λ replacement. sound_from text replacement 0 ts h }
 
--- the tokens so far, with any cut of the rest, are a cut of the whole
-abbrev pub Sofar : List ℕ → ℕ → List Token → Type 0
-Sofar text at done = (rest : List Token) → Cut text at rest → Cut text 0 (done ++ rest)
+-- the tokens that were taken one by one until none was left are a cut
+cut_from_steps : (ts : List Token) (s t u : Tokens) → Yields TakesToken s ts t → TakesToken t None u → Cut s.text.now s.at ts
+cut_from_steps [] s t u e last = grind arith
+cut_from_steps (x ∷ ts) s t u (j, step, more) last = grind (arith, cut_from_steps ts j t u more last)
 
-pub one_more : (text : List ℕ) (at : ℕ) (done : List Token) (t : Token) → at < length text → t ≡ front at (drop at text) → Sofar text at done → Sofar text (at + t.length) (done ++ t ∷ [])
-one_more text at done t h e so rest cut = subst (Cut text 0) (sym (append_assoc done (t ∷ []) rest)) (so (t ∷ rest) (h, e, cut))
-
-pub all_done : (text : List ℕ) (at : ℕ) (done : List Token) → length text ≤ at → Sofar text at done → Lexed text done
-all_done text at done h so = lexed text done (subst (Cut text 0) (append-nil done) (so [] h))
+-- so a text whose tokens were taken one by one from its start on is lexed
+pub lexed_from_steps : (ts : List Token) (s : Tokens) → s.at ≡ 0 → DrainsIf TakesToken (Unit {0}) s ts → Lexed s.text.now ts
+lexed_from_steps ts s e (t, steps, last) =
+    lexed s.text.now ts (subst (λ (n : ℕ). Cut s.text.now n ts) e (cut_from_steps ts s t (last tt).0 steps (last tt).1))

@@ -1,3 +1,2 @@
-pub mod Runs
 pub mod Fronts
 pub mod Cuts

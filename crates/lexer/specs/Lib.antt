@@ -1,3 +1,4 @@
 pub mod Kinds
 pub mod Front
 pub mod Lexed
+pub mod Tokens

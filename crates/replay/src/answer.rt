@@ -1,131 +1,156 @@
 // The lines of an answer.
-use crate::numbers::Fault;
-use cut::{Cut, Note};
+use cut::{Cut, CutRefusal, CutterRefusal, Note};
 use sheet::{Piece, Position, SheetRefusal};
 use starts::{Horizontal, Specifier, Vertical};
-use std::io;
+use std::error::Error;
+use std::{fmt, io};
+use styles::Style;
 
-/// Says what is wrong with a line.
-pub fn print_fault(rt: &HostRuntime, id: &str, fault: Fault) -> io::Result<()> {
-    println!(rt; "case {id} bad: {}", fault_words(fault))
+/// What is refused in a case.
+#[derive(Clone, Copy, Debug, PartialEq, Eq, Hash)]
+pub enum Refusal {
+    Sheet(SheetRefusal),
+    Cutter(CutterRefusal),
+    Cut(CutRefusal),
 }
 
-fn fault_words(fault: Fault) -> &'static str {
-    match fault {
-        Fault::NotText => "the line is not text",
-        Fault::Hex => "page or repl is not hex bytes",
-        Fault::Token => "a token is not four numbers",
-        Fault::Format => "unknown format",
-        Fault::Separator => "sep is not a byte",
-        Fault::Pieces => "pieces is not a number up to 1048576",
-        Fault::Notes => "notes is not a number up to 4096",
-        Fault::Memory => "there is not enough memory",
+impl fmt::Display for Refusal {
+    fn fmt<W: fmt::Write>(&self, f: &mut fmt::Formatter<W>) -> fmt::Result {
+        match self {
+            Refusal::Sheet(SheetRefusal::UnsoundToken { token }) => {
+                write!(f, "refused 12 {token}")
+            }
+            Refusal::Sheet(refusal) => write!(f, "refused {}", refusal.number()),
+            Refusal::Cutter(refusal) => write!(f, "refused {}", refusal.number()),
+            Refusal::Cut(refusal) => write!(f, "refused {}", refusal.number()),
+        }
     }
 }
 
-pub fn print_sheet_refusal(rt: &HostRuntime, refusal: SheetRefusal) -> io::Result<()> {
-    match refusal {
-        SheetRefusal::TextTooLong => rt.println("refused 10"),
-        SheetRefusal::TooManyTokens => rt.println("refused 11"),
-        SheetRefusal::UnsoundToken { token } => println!(rt; "refused 12 {token}"),
-    }
-}
-
-pub fn print_cutter_refusal(rt: &HostRuntime) -> io::Result<()> {
-    rt.println("refused 2")
-}
-
-pub fn print_cut_refusal(rt: &HostRuntime) -> io::Result<()> {
-    rt.println("refused 33")
-}
-
-/// Says where the position stands behind the last cell.
-pub fn print_end(rt: &HostRuntime, at: Position) -> io::Result<()> {
-    let token = at.token;
-    let offset = at.offset;
-    println!(rt; "end {token}.{offset}")
-}
+impl Error for Refusal {}
 
 /// Prints a cell with the pieces and the notes that its cut appended.
-pub fn print_cell(rt: &HostRuntime, cut: &Cut, pieces: &[Piece], notes: &[Note]) -> io::Result<()> {
-    let first = cut.first;
-    print!(rt; "cell {first} ")?;
-    print_specifier(rt, cut.specifier)?;
-    let line_end = mark(cut.line_end);
-    let blank_after = mark(cut.blank_after);
-    let blank_inside = mark(cut.blank_inside);
-    print!(rt; " {line_end} {blank_after} {blank_inside} pieces=")?;
-    print_pieces(rt, pieces)?;
-    rt.print(" notes=")?;
-    print_notes(rt, notes)?;
-    rt.println("")
+pub fn print_cell(rt: &impl Print, cut: Cut, pieces: &[Piece], notes: &[Note]) -> io::Result<()> {
+    println!(rt;
+        "cell {} pieces={} notes={}",
+        Written(cut),
+        Written(pieces),
+        Written(notes)
+    )
 }
 
-fn print_specifier(rt: &HostRuntime, specifier: Specifier) -> io::Result<()> {
-    let factor = specifier.factor;
-    let columns = specifier.columns;
-    let rows = specifier.rows;
-    print!(rt; "{factor} {columns} {rows} ")?;
-    let horizontal = horizontal_name(specifier.horizontal);
-    let vertical = vertical_name(specifier.vertical);
-    print!(rt; "{horizontal} {vertical} ")?;
-    match specifier.style {
-        Some(style) => print!(rt; "{style}"),
-        None => rt.print("-"),
+/// A value as it stands in an answer.
+// A newtype: a `Display` of another crate's type cannot stand here, and `starpage` writes the same types otherwise.
+#[derive(Clone, Copy)]
+pub struct Written<T>(pub T);
+
+impl fmt::Display for Written<Cut> {
+    fn fmt<W: fmt::Write>(&self, f: &mut fmt::Formatter<W>) -> fmt::Result {
+        let Written(cut) = self;
+        write!(
+            f,
+            "{} {} {} {} {}",
+            cut.first,
+            Written(cut.specifier),
+            u8::from(cut.line_end),
+            u8::from(cut.blank_after),
+            u8::from(cut.blank_inside)
+        )
     }
 }
 
-fn horizontal_name(alignment: Option<Horizontal>) -> &'static str {
-    let Some(alignment) = alignment else {
-        return "-";
-    };
-    match alignment {
-        Horizontal::Left => "left",
-        Horizontal::Right => "right",
-        Horizontal::Center => "center",
+impl fmt::Display for Written<Specifier> {
+    fn fmt<W: fmt::Write>(&self, f: &mut fmt::Formatter<W>) -> fmt::Result {
+        let Written(specifier) = self;
+        write!(
+            f,
+            "{} {} {} {} {} {}",
+            specifier.factor,
+            specifier.columns,
+            specifier.rows,
+            Written(specifier.horizontal),
+            Written(specifier.vertical),
+            Written(specifier.style)
+        )
     }
 }
 
-fn vertical_name(alignment: Option<Vertical>) -> &'static str {
-    let Some(alignment) = alignment else {
-        return "-";
-    };
-    match alignment {
-        Vertical::Top => "top",
-        Vertical::Bottom => "bottom",
-        Vertical::Middle => "middle",
+impl fmt::Display for Written<Horizontal> {
+    fn fmt<W: fmt::Write>(&self, f: &mut fmt::Formatter<W>) -> fmt::Result {
+        f.write_str(match self.0 {
+            Horizontal::Left => "left",
+            Horizontal::Right => "right",
+            Horizontal::Center => "center",
+        })
     }
 }
 
-/// A mark as it is printed.
-fn mark(set: bool) -> &'static str {
-    if set { "1" } else { "0" }
-}
-
-/// What stands before an item of a list.
-fn lead(some: bool) -> &'static str {
-    if some { "," } else { "" }
-}
-
-fn print_pieces(rt: &HostRuntime, pieces: &[Piece]) -> io::Result<()> {
-    let mut some = false;
-    for piece in pieces {
-        let token = piece.token;
-        let offset = piece.offset;
-        let length = piece.length;
-        print!(rt; "{}{token}.{offset}.{length}", lead(some))?;
-        some = true;
+impl fmt::Display for Written<Vertical> {
+    fn fmt<W: fmt::Write>(&self, f: &mut fmt::Formatter<W>) -> fmt::Result {
+        f.write_str(match self.0 {
+            Vertical::Top => "top",
+            Vertical::Bottom => "bottom",
+            Vertical::Middle => "middle",
+        })
     }
-    rt.print(if some { "" } else { "-" })
 }
 
-fn print_notes(rt: &HostRuntime, notes: &[Note]) -> io::Result<()> {
-    let mut some = false;
-    for note in notes {
-        let number = note.number;
-        let token = note.token;
-        print!(rt; "{}{number}@{token}", lead(some))?;
-        some = true;
+impl fmt::Display for Written<Style> {
+    fn fmt<W: fmt::Write>(&self, f: &mut fmt::Formatter<W>) -> fmt::Result {
+        write!(f, "{}", self.0.number())
     }
-    rt.print(if some { "" } else { "-" })
+}
+
+impl fmt::Display for Written<Piece> {
+    fn fmt<W: fmt::Write>(&self, f: &mut fmt::Formatter<W>) -> fmt::Result {
+        let Piece {
+            token,
+            offset,
+            length,
+        } = self.0;
+        write!(f, "{token}.{offset}.{length}")
+    }
+}
+
+impl fmt::Display for Written<Note> {
+    fn fmt<W: fmt::Write>(&self, f: &mut fmt::Formatter<W>) -> fmt::Result {
+        let Note { number, token } = self.0;
+        write!(f, "{number}@{token}")
+    }
+}
+
+impl fmt::Display for Written<Position> {
+    fn fmt<W: fmt::Write>(&self, f: &mut fmt::Formatter<W>) -> fmt::Result {
+        write!(f, "{}.{}", self.0.token, self.0.offset)
+    }
+}
+
+/// What is there, or `-`.
+impl<T: Copy> fmt::Display for Written<Option<T>>
+where
+    Written<T>: fmt::Display,
+{
+    fn fmt<W: fmt::Write>(&self, f: &mut fmt::Formatter<W>) -> fmt::Result {
+        match self.0 {
+            Some(value) => Written(value).fmt(f),
+            None => f.write_str("-"),
+        }
+    }
+}
+
+/// The items with commas between, or `-` where there is none.
+impl<T: Copy> fmt::Display for Written<&[T]>
+where
+    Written<T>: fmt::Display,
+{
+    fn fmt<W: fmt::Write>(&self, f: &mut fmt::Formatter<W>) -> fmt::Result {
+        let Some((first, more)) = self.0.split_first() else {
+            return f.write_str("-");
+        };
+        Written(*first).fmt(f)?;
+        for item in more {
+            write!(f, ",{}", Written(*item))?;
+        }
+        Ok(())
+    }
 }

@@ -1,2 +1,3 @@
+pub mod SameKinds
 pub mod Tokens
 pub mod Lefts

@@ -1,9 +1,9 @@
 -- What is known of a token of a sheet, and how the first unsound one is found.
 -- Assumes nothing.
-use Rattle.std.proofs.Common.{◌≡◌, ℕ, zero, suc, ◌+◌, ◌<◌, ◌≤◌, Bool, true, false, cond, ◌&&◌, ltb, leb, List, [], ◌∷◌, length, get_or, drop, Some, None, sym, refl, ap, ◌∙◌, arith}
-use Rattle.std.specs.List.{slice_get}
-use Rattle.std.proofs.lemmas.List.{at_drop_more}
-use Rattle.std.proofs.lemmas.Bool.{leb-true, ltb-true, lt-ltb, le-leb, and_parts, and_from, cond-true, cond-false}
+use Rattle.std.proofs.Common.{◌≡◌, ℕ, zero, suc, ◌+◌, ◌<◌, ◌≤◌, Bool, true, false, cond, not, ◌&&◌, ltb, leb, List, [], ◌∷◌, length, drop, Some, None, sym, refl, ap, ◌∙◌, arith}
+use Rattle.std.specs.List.{slice_get, position_or_len}
+use Rattle.std.proofs.lemmas.Bool.{leb-true, ltb-true, ltb-false, lt-ltb, le-leb, and_parts, and_from}
+use Rattle.sheet.specs.Kinds.{word}
 use Rattle.sheet.specs.Sound.{text_of, token_bytes, is_kind, bytes_fit, flag_fits, sound_token, all_sound, first_unsound}
 use Rattle.sheet.specs.declared.records.Token.{Token}
 
@@ -23,15 +23,30 @@ ends_inside page replacement t h =
     let b = (and_parts (ltb 0 t.length) _ a).1 in
     leb-true (t.start + t.length) (length (text_of page replacement t.replaced)) (and_parts (leb (t.start + t.length) (length (text_of page replacement t.replaced))) _ b).0
 
+-- the kind of a sound token is one
+pub kind_within : (page replacement : List ℕ) (t : Token) → sound_token page replacement t ≡ true → t.kind ≤ word
+kind_within page replacement t h = leb-true t.kind word (and_parts (leb t.kind word) _ (and_parts (is_kind t.kind) _ h).0).0
+
 -- where no token is the first unsound one, all are sound
-pub all_from_first : (page replacement : List ℕ) (i : ℕ) (ts : List Token) → first_unsound page replacement i ts ≡ None → all_sound page replacement ts ≡ true
-all_from_first page replacement i [] h = refl
-all_from_first page replacement i (t ∷ ts) h = go (sound_token page replacement t) refl h (all_from_first page replacement (i + 1) ts)
+pub all_from_first : (page replacement : List ℕ) (ts : List Token) → first_unsound page replacement ts ≡ None → all_sound page replacement ts ≡ true
+all_from_first page replacement ts h = first (ltb (position_or_len unsound ts) (length ts)) refl h
   where
-    go : (b : Bool) → sound_token page replacement t ≡ b → cond b (first_unsound page replacement (i + 1) ts) (Some i) ≡ None
-        → (first_unsound page replacement (i + 1) ts ≡ None → all_sound page replacement ts ≡ true) → (sound_token page replacement t && all_sound page replacement ts) ≡ true
-    go true e k rest = and_from (sound_token page replacement t) (all_sound page replacement ts) e (rest k)
-    go false e k rest = let z : ◌≡◌ {A = ℕ} 0 1 = cc in absurd (omega arith)
+    unsound : Token → Bool
+    unsound t = not (sound_token page replacement t)
+
+    past : (us : List Token) → length us ≤ position_or_len unsound us → all_sound page replacement us ≡ true
+    past [] e = refl
+    past (t ∷ us) e = go (sound_token page replacement t) refl e (past us)
+      where
+        go : (b : Bool) → sound_token page replacement t ≡ b → suc (length us) ≤ cond (not (not b)) (1 + position_or_len unsound us) 0
+            → (length us ≤ position_or_len unsound us → all_sound page replacement us ≡ true)
+            → (sound_token page replacement t && all_sound page replacement us) ≡ true
+        go true q k rest = and_from (sound_token page replacement t) (all_sound page replacement us) q (rest (omega arith))
+        go false q k rest = absurd (omega arith)
+
+    first : (b : Bool) → ltb (position_or_len unsound ts) (length ts) ≡ b → cond b (Some (position_or_len unsound ts)) None ≡ None → all_sound page replacement ts ≡ true
+    first true e k = let z : ◌≡◌ {A = ℕ} 0 1 = cc in absurd (omega arith)
+    first false e k = past ts (ltb-false (position_or_len unsound ts) (length ts) e)
 
 -- of a token that passes the other tests, the bytes decide
 pub sound_by_bytes : (page replacement : List ℕ) (t : Token) → is_kind t.kind ≡ true → 0 < t.length
@@ -43,17 +58,6 @@ sound_by_bytes page replacement t kind some ends flag =
   where
     passed : (a b c d e : Bool) → a ≡ true → b ≡ true → c ≡ true → d ≡ true → e ≡ (a && (b && (c && (d && e))))
     passed a b c d e p q r s = rw (p, q, r, s)
-
--- one token further, the first unsound one is that token or the first of the rest
-module _ (page replacement : List ℕ) (ts : List Token) (i : ℕ) (t : Token) (in' : i < length ts) (here : t ≡ get_or ts i t) where
-  first_step : first_unsound page replacement i (drop i ts) ≡ cond (sound_token page replacement t) (first_unsound page replacement (i + 1) (drop (i + 1) ts)) (Some i)
-  first_step = at_drop_more (first_unsound page replacement i) ts i t in' ∙ ap (λ (x : Token). first_unsound page replacement i (x ∷ drop (i + 1) ts)) (sym here)
-
-  pub first_here : sound_token page replacement t ≡ false → first_unsound page replacement i (drop i ts) ≡ Some i
-  first_here no' = first_step ∙ cond-false (sound_token page replacement t) _ _ no'
-
-  pub first_later : sound_token page replacement t ≡ true → first_unsound page replacement i (drop i ts) ≡ first_unsound page replacement (i + 1) (drop (i + 1) ts)
-  first_later ok = first_step ∙ cond-true (sound_token page replacement t) _ _ ok
 
 -- a sound token has a byte
 pub token_has_byte : (page replacement : List ℕ) (t : Token) → sound_token page replacement t ≡ true → 0 < t.length

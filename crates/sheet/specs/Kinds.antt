@@ -1,6 +1,9 @@
 -- The kinds of tokens, by their numbers: 0 to 50, in the order of the `TokenKind` of asciidork-parser.
 -- Assumes nothing.
-use Rattle.std.specs.Prelude.{ℕ}
+use Rattle.std.specs.Prelude.{◌≡◌, ℕ, ◌<◌, Result, MatchResult}
+use Rattle.sheet.specs.declared.kind.Kind.{Kind}
+use Rattle.sheet.specs.declared.kind.Kind.TheVariants.{Ampersand, AttrDef, AttrPassDbl, AttrRef, Backtick, Backslash, Bang, CalloutNumber, Caret, CloseBrace, CloseBracket, CloseParens, Colon, Comma, Dashes, DelimiterLine, Digits, Directive, Discard, DoubleQuote, Dots, Email, Entity, EqualSigns, Eof, ForwardSlashes, GreaterThan, Hash, LessThan, MacroName, MaybeEmail, Newline, NoBreakSpace, OpenBrace, OpenBracket, OpenParens, Percent, Pipe, Plus, PreprocPassthru, Punctuation, QuestionMark, SemiColon, SingleQuote, Star, TermDelimiter, Tilde, Underscore, UriScheme, Whitespace, Word}
+use Rattle.sheet.specs.declared.kind.UnknownKind.{UnknownKind}
 
 abbrev pub ampersand : ℕ
 ampersand = 0
@@ -154,3 +157,61 @@ whitespace = 49
 
 abbrev pub word : ℕ
 word = 50
+
+-- the number of a kind
+abbrev pub number_of : Kind → ℕ
+number_of Ampersand = ampersand
+number_of AttrDef = attr_def
+number_of AttrPassDbl = attr_pass_dbl
+number_of AttrRef = attr_ref
+number_of Backtick = backtick
+number_of Backslash = backslash
+number_of Bang = bang
+number_of CalloutNumber = callout_number
+number_of Caret = caret
+number_of CloseBrace = close_brace
+number_of CloseBracket = close_bracket
+number_of CloseParens = close_parens
+number_of Colon = colon
+number_of Comma = comma
+number_of Dashes = dashes
+number_of DelimiterLine = delimiter_line
+number_of Digits = digits
+number_of Directive = directive
+number_of Discard = discard
+number_of DoubleQuote = double_quote
+number_of Dots = dots
+number_of Email = email
+number_of Entity = entity
+number_of EqualSigns = equal_signs
+number_of Eof = eof
+number_of ForwardSlashes = forward_slashes
+number_of GreaterThan = greater_than
+number_of Hash = hash
+number_of LessThan = less_than
+number_of MacroName = macro_name
+number_of MaybeEmail = maybe_email
+number_of Newline = newline
+number_of NoBreakSpace = no_break_space
+number_of OpenBrace = open_brace
+number_of OpenBracket = open_bracket
+number_of OpenParens = open_parens
+number_of Percent = percent
+number_of Pipe = pipe
+number_of Plus = plus
+number_of PreprocPassthru = preproc_passthru
+number_of Punctuation = punctuation
+number_of QuestionMark = question_mark
+number_of SemiColon = semi_colon
+number_of SingleQuote = single_quote
+number_of Star = star
+number_of TermDelimiter = term_delimiter
+number_of Tilde = tilde
+number_of Underscore = underscore
+number_of UriScheme = uri_scheme
+number_of Whitespace = whitespace
+number_of Word = word
+
+-- the kind of a number, or an error with a number that no kind has
+abbrev pub Numbered : ℕ → Result Kind UnknownKind → Type 0
+Numbered n r = MatchResult r (λ k. number_of k ≡ n) (λ e. (e.0 ≡ n) × (word < n))

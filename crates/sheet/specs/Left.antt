@@ -1,12 +1,13 @@
 -- The tokens that are left at a place of a sheet.
 -- A place is a token number and an offset into that token. A place off its sheet is its end: nothing is left there.
 -- Assumes nothing.
-use Rattle.std.specs.Prelude.{ℕ, ◌+◌, ◌-◌, Bool, cond, List, [], ◌∷◌, length, take, drop, nat_lt}
+use Rattle.std.specs.Prelude.{ℕ, ◌+◌, ◌-◌, Bool, cond, not, ◌&&◌, List, [], ◌∷◌, length, take, drop, ◌==◌, nat_lt}
+use Rattle.sheet.specs.Kinds.{number_of}
 use Rattle.sheet.specs.Sound.{text_of}
 use Rattle.sheet.specs.View.{SheetView, kind_from}
 use Rattle.sheet.specs.declared.records.Piece.{Piece}
 use Rattle.sheet.specs.declared.records.Place.{Place}
-use Rattle.sheet.specs.declared.records.Seen.{Seen}
+use Rattle.sheet.specs.declared.seen.Seen.{Seen}
 use Rattle.sheet.specs.declared.records.Token.{Token}
 
 -- a token that is left, whole or in part: its number, where in it the part begins, and what stands there
@@ -45,8 +46,12 @@ abbrev pub left_at : SheetView → Place → List Left
 left_at v p = left v p.token p.offset
 
 -- what the code sees at a place, as a token that is left
-abbrev pub seen_at : Place → Seen → Left
-seen_at p s = record { number = p.token; offset = p.offset; kind = s.kind; replaced = s.replaced; bytes = s.bytes.now }
+abbrev pub seen_at : Seen → Left
+seen_at s = record { number = s.place.token; offset = s.place.offset; kind = number_of s.kind; replaced = s.replaced; bytes = s.bytes.now }
+
+-- an unreplaced token of a kind
+abbrev pub plain : ℕ → Left → Bool
+plain k t = not t.replaced && t.kind == k
 
 -- a token that is left, as a piece
 abbrev pub piece_of : Left → Piece

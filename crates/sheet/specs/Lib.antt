@@ -4,3 +4,4 @@ pub mod Sound
 pub mod Refusals
 pub mod View
 pub mod Left
+pub mod Places

@@ -28,4 +28,4 @@ abbrev pub refusal_of : List ℕ → List ℕ → List Token → Option Told
 refusal_of page replacement tokens =
     cond (nat_lt max_text (length page) || nat_lt max_text (length replacement)) (Some (record { number = 10; values = [] }))
     (cond (nat_lt max_tokens (length tokens)) (Some (record { number = 11; values = [] }))
-    (unsound (first_unsound page replacement 0 tokens)))
+    (unsound (first_unsound page replacement tokens)))

@@ -2,6 +2,7 @@
 -- A text is a list of bytes. Tests are yes or no, so that a sheet's type can hold them.
 -- Assumes nothing.
 use Rattle.std.specs.Prelude.{ℕ, ◌+◌, Bool, true, false, cond, not, ◌&&◌, List, [], ◌∷◌, length, take, drop, Some, None, Option, ◌==◌, nat_le, nat_lt}
+use Rattle.std.specs.List.{list_all, position}
 use Rattle.sheet.specs.Kinds.{backslash, colon, comma, digits, discard, double_quote, eof, newline, pipe, semi_colon, word}
 use Rattle.sheet.specs.declared.records.Token.{Token}
 
@@ -22,8 +23,7 @@ abbrev pub is_digit : ℕ → Bool
 is_digit b = nat_le 48 b && nat_le b 57
 
 abbrev pub all_digits : List ℕ → Bool
-all_digits [] = true
-all_digits (b ∷ bs) = is_digit b && all_digits bs
+all_digits = list_all is_digit
 
 -- the kinds that are just one byte, and that byte: `:` `;` `,` `|` `"` `\` and the line feed
 abbrev pub one_byte : ℕ → Option ℕ
@@ -68,8 +68,6 @@ abbrev pub all_sound : List ℕ → List ℕ → List Token → Bool
 all_sound page replacement [] = true
 all_sound page replacement (t ∷ ts) = sound_token page replacement t && all_sound page replacement ts
 
--- the number of the first token that is not sound, where the first of the list has the number i
-abbrev pub first_unsound : List ℕ → List ℕ → ℕ → List Token → Option ℕ
-first_unsound page replacement i [] = None
-first_unsound page replacement i (t ∷ ts) =
-    cond (sound_token page replacement t) (first_unsound page replacement (i + 1) ts) (Some i)
+-- the number of the first token that is not sound
+abbrev pub first_unsound : List ℕ → List ℕ → List Token → Option ℕ
+first_unsound page replacement = position (λ t. not (sound_token page replacement t))

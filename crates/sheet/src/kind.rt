@@ -1,106 +1,155 @@
-// The kinds of tokens, by their numbers: 0 to 50, in the order of the `TokenKind` of asciidork-parser.
+// The kinds of tokens, 0 to 50, in the order of the `TokenKind` of asciidork-parser.
+ghost use Rattle.std.specs.Prelude.{◌≡◌};
+ghost use Rattle.sheet.specs.Kinds.{number_of, Numbered};
 
-pub const AMPERSAND: u8 = 0;
+use std::error::Error;
+use std::fmt;
 
-pub const ATTR_DEF: u8 = 1;
+/// What a token is. The numbers 0 to 50 stand for the kinds, in this order.
+#[derive(Clone, Copy, Debug, PartialEq, Eq, Hash)]
+pub enum Kind {
+    Ampersand,
+    AttrDef,
+    AttrPassDbl,
+    AttrRef,
+    Backtick,
+    Backslash,
+    Bang,
+    CalloutNumber,
+    Caret,
+    CloseBrace,
+    CloseBracket,
+    CloseParens,
+    Colon,
+    Comma,
+    Dashes,
+    DelimiterLine,
+    Digits,
+    Directive,
+    Discard,
+    DoubleQuote,
+    Dots,
+    Email,
+    Entity,
+    EqualSigns,
+    Eof,
+    ForwardSlashes,
+    GreaterThan,
+    Hash,
+    LessThan,
+    MacroName,
+    MaybeEmail,
+    Newline,
+    NoBreakSpace,
+    OpenBrace,
+    OpenBracket,
+    OpenParens,
+    Percent,
+    Pipe,
+    Plus,
+    PreprocPassthru,
+    Punctuation,
+    QuestionMark,
+    SemiColon,
+    SingleQuote,
+    Star,
+    TermDelimiter,
+    Tilde,
+    Underscore,
+    UriScheme,
+    Whitespace,
+    Word,
+}
 
-pub const ATTR_PASS_DBL: u8 = 2;
+/// A number that no kind has.
+// An error type of its own, as each enum has whose `TryFrom` takes a number.
+#[derive(Clone, Copy, Debug, PartialEq, Eq, Hash)]
+pub struct UnknownKind(pub u8);
 
-pub const ATTR_REF: u8 = 3;
+impl Kind {
+    /// The number that stands for the kind.
+    pub fn number(self) -> u8
+        ensures { result ≡ number_of self }
+    {
+        self as u8
+    }
+}
 
-pub const BACKTICK: u8 = 4;
+// Each number by itself: no derive makes an enum of a number.
+impl TryFrom<u8> for Kind {
+    type Error = UnknownKind;
 
-pub const BACKSLASH: u8 = 5;
+    ghost try_from_gives = { Numbered };
 
-pub const BANG: u8 = 6;
+    fn try_from(number: u8) -> Result<Kind, UnknownKind> {
+        match number {
+            0 => Ok(Kind::Ampersand),
+            1 => Ok(Kind::AttrDef),
+            2 => Ok(Kind::AttrPassDbl),
+            3 => Ok(Kind::AttrRef),
+            4 => Ok(Kind::Backtick),
+            5 => Ok(Kind::Backslash),
+            6 => Ok(Kind::Bang),
+            7 => Ok(Kind::CalloutNumber),
+            8 => Ok(Kind::Caret),
+            9 => Ok(Kind::CloseBrace),
+            10 => Ok(Kind::CloseBracket),
+            11 => Ok(Kind::CloseParens),
+            12 => Ok(Kind::Colon),
+            13 => Ok(Kind::Comma),
+            14 => Ok(Kind::Dashes),
+            15 => Ok(Kind::DelimiterLine),
+            16 => Ok(Kind::Digits),
+            17 => Ok(Kind::Directive),
+            18 => Ok(Kind::Discard),
+            19 => Ok(Kind::DoubleQuote),
+            20 => Ok(Kind::Dots),
+            21 => Ok(Kind::Email),
+            22 => Ok(Kind::Entity),
+            23 => Ok(Kind::EqualSigns),
+            24 => Ok(Kind::Eof),
+            25 => Ok(Kind::ForwardSlashes),
+            26 => Ok(Kind::GreaterThan),
+            27 => Ok(Kind::Hash),
+            28 => Ok(Kind::LessThan),
+            29 => Ok(Kind::MacroName),
+            30 => Ok(Kind::MaybeEmail),
+            31 => Ok(Kind::Newline),
+            32 => Ok(Kind::NoBreakSpace),
+            33 => Ok(Kind::OpenBrace),
+            34 => Ok(Kind::OpenBracket),
+            35 => Ok(Kind::OpenParens),
+            36 => Ok(Kind::Percent),
+            37 => Ok(Kind::Pipe),
+            38 => Ok(Kind::Plus),
+            39 => Ok(Kind::PreprocPassthru),
+            40 => Ok(Kind::Punctuation),
+            41 => Ok(Kind::QuestionMark),
+            42 => Ok(Kind::SemiColon),
+            43 => Ok(Kind::SingleQuote),
+            44 => Ok(Kind::Star),
+            45 => Ok(Kind::TermDelimiter),
+            46 => Ok(Kind::Tilde),
+            47 => Ok(Kind::Underscore),
+            48 => Ok(Kind::UriScheme),
+            49 => Ok(Kind::Whitespace),
+            50 => Ok(Kind::Word),
+            _ => Err(UnknownKind(number)),
+        }
+    }
+}
 
-pub const CALLOUT_NUMBER: u8 = 7;
+/// The name of the variant, as `Debug` gives it.
+impl fmt::Display for Kind {
+    fn fmt<W: fmt::Write>(&self, f: &mut fmt::Formatter<W>) -> fmt::Result {
+        fmt::Debug::fmt(self, f)
+    }
+}
 
-pub const CARET: u8 = 8;
+impl fmt::Display for UnknownKind {
+    fn fmt<W: fmt::Write>(&self, f: &mut fmt::Formatter<W>) -> fmt::Result {
+        write!(f, "no kind has the number {}", self.0)
+    }
+}
 
-pub const CLOSE_BRACE: u8 = 9;
-
-pub const CLOSE_BRACKET: u8 = 10;
-
-pub const CLOSE_PARENS: u8 = 11;
-
-pub const COLON: u8 = 12;
-
-pub const COMMA: u8 = 13;
-
-pub const DASHES: u8 = 14;
-
-pub const DELIMITER_LINE: u8 = 15;
-
-pub const DIGITS: u8 = 16;
-
-pub const DIRECTIVE: u8 = 17;
-
-pub const DISCARD: u8 = 18;
-
-pub const DOUBLE_QUOTE: u8 = 19;
-
-pub const DOTS: u8 = 20;
-
-pub const EMAIL: u8 = 21;
-
-pub const ENTITY: u8 = 22;
-
-pub const EQUAL_SIGNS: u8 = 23;
-
-pub const EOF: u8 = 24;
-
-pub const FORWARD_SLASHES: u8 = 25;
-
-pub const GREATER_THAN: u8 = 26;
-
-pub const HASH: u8 = 27;
-
-pub const LESS_THAN: u8 = 28;
-
-pub const MACRO_NAME: u8 = 29;
-
-pub const MAYBE_EMAIL: u8 = 30;
-
-pub const NEWLINE: u8 = 31;
-
-pub const NO_BREAK_SPACE: u8 = 32;
-
-pub const OPEN_BRACE: u8 = 33;
-
-pub const OPEN_BRACKET: u8 = 34;
-
-pub const OPEN_PARENS: u8 = 35;
-
-pub const PERCENT: u8 = 36;
-
-pub const PIPE: u8 = 37;
-
-pub const PLUS: u8 = 38;
-
-pub const PREPROC_PASSTHRU: u8 = 39;
-
-pub const PUNCTUATION: u8 = 40;
-
-pub const QUESTION_MARK: u8 = 41;
-
-pub const SEMI_COLON: u8 = 42;
-
-pub const SINGLE_QUOTE: u8 = 43;
-
-pub const STAR: u8 = 44;
-
-pub const TERM_DELIMITER: u8 = 45;
-
-pub const TILDE: u8 = 46;
-
-pub const UNDERSCORE: u8 = 47;
-
-pub const URI_SCHEME: u8 = 48;
-
-pub const WHITESPACE: u8 = 49;
-
-pub const WORD: u8 = 50;
-
-/// The largest number that is a kind.
-pub const LAST: u8 = WORD;
+impl Error for UnknownKind {}

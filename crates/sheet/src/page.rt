@@ -9,9 +9,9 @@ pub mod see;
 
 use crate::records::Token;
 
-/// A page, a replacement text and tokens, within the limits and with every token sound. `Sheet::empty` and
-/// `Sheet::load` make one, and nothing else does.
-#[derive(Clone, Copy)]
+/// A page, a replacement text and tokens, within the limits and with every token sound. `Sheet::new`,
+/// `Sheet::empty` and `Sheet::load` make one, and nothing else does.
+#[derive(Clone, Copy, Debug, PartialEq, Eq, Hash)]
 pub struct Sheet<'a> {
     page: &'a [u8],
     replacement: &'a [u8],

@@ -1,9 +1,15 @@
 // The plain records of a sheet: tokens, pieces of them, and positions among them.
+ghost use Rattle.std.specs.Prelude.{◌≡◌};
+ghost use Rattle.sheet.specs.Places.{front_of, place_in, position_at};
 
-/// A part of a text, with the kind that a lexer gave it (`kind` has the numbers; 51 and above are no kind).
-/// The bytes of a replaced token stand in the replacement text, those of any other in the page.
-#[derive(Clone, Copy)]
+pub use crate::seen::Seen;
+
+/// A part of a text, with the kind that a lexer gave it. The bytes of a replaced token stand in the replacement text,
+/// those of any other in the page.
+#[derive(Clone, Copy, Debug, PartialEq, Eq, Hash)]
 pub struct Token {
+    /// The number of a `Kind`, or one of 51 and above, which stand for none. It is no `Kind`, since a sheet is asked
+    /// for with any number, and refuses those.
     pub kind: u8,
     pub replaced: bool,
     /// where its bytes begin in its text
@@ -13,7 +19,7 @@ pub struct Token {
 }
 
 /// A part of one token: of the token with this number, so many bytes from an offset on.
-#[derive(Clone, Copy)]
+#[derive(Clone, Copy, Debug, Default, PartialEq, Eq, Hash)]
 pub struct Piece {
     pub token: u32,
     pub offset: u32,
@@ -22,7 +28,7 @@ pub struct Piece {
 
 /// Where reading stands on a sheet: a token number, an offset into that token, and whether the last cell ended at
 /// a separator. A position past the last token, or past the end of its token, is the sheet's end.
-#[derive(Clone, Copy)]
+#[derive(Clone, Copy, Debug, PartialEq, Eq, Hash)]
 pub struct Position {
     pub token: usize,
     pub offset: usize,
@@ -39,16 +45,39 @@ impl Position {
 }
 
 /// A token number and an offset into that token.
-#[derive(Clone, Copy)]
+#[derive(Clone, Copy, Debug, PartialEq, Eq, Hash)]
 pub struct Place {
     pub token: usize,
     pub offset: usize,
 }
 
-/// What stands at a place: a token, or what is left of one. What is left behind dropped bytes is a Word.
-#[derive(Clone, Copy)]
-pub struct Seen<'a> {
-    pub kind: u8,
-    pub replaced: bool,
-    pub bytes: &'a [u8],
+impl Place {
+    /// The front of a token.
+    pub fn front(token: usize) -> Place
+        ensures { result ≡ front_of token }
+    {
+        Place { token, offset: 0 }
+    }
+
+    /// The position here, behind a separator or not.
+    pub fn position(self, separated: bool) -> Position
+        ensures { result ≡ position_at self separated }
+    {
+        Position {
+            token: self.token,
+            offset: self.offset,
+            separated,
+        }
+    }
+}
+
+impl From<Position> for Place {
+    ghost from_gives = { λ at place. place ≡ place_in at };
+
+    fn from(at: Position) -> Place {
+        Place {
+            token: at.token,
+            offset: at.offset,
+        }
+    }
 }

@@ -2,8 +2,11 @@
 ghost use Rattle.std.specs.Prelude.{◌≡◌};
 ghost use Rattle.sheet.specs.Refusals.{told};
 
+use std::error::Error;
+use std::fmt;
+
 /// Why a page, a replacement text and tokens make no sheet.
-#[derive(Clone, Copy)]
+#[derive(Clone, Copy, Debug, PartialEq, Eq, Hash)]
 pub enum SheetRefusal {
     /// 10: one of the two texts has more than `MAX_TEXT` bytes.
     TextTooLong,
@@ -25,3 +28,18 @@ impl SheetRefusal {
         }
     }
 }
+
+impl fmt::Display for SheetRefusal {
+    fn fmt<W: fmt::Write>(&self, f: &mut fmt::Formatter<W>) -> fmt::Result {
+        match self {
+            SheetRefusal::TextTooLong => f.write_str("a text has more than 1,048,576 bytes"),
+            SheetRefusal::TooManyTokens => f.write_str("there are more than 262,144 tokens"),
+            SheetRefusal::UnsoundToken { token } => write!(
+                f,
+                "token {token} is not what its kind says"
+            ),
+        }
+    }
+}
+
+impl Error for SheetRefusal {}

@@ -1,51 +1,34 @@
 // What the command line asks for.
+use crate::complaint::Complaint;
+use std::rt::Env;
 use std::{env, io};
 
 /// What is to be done.
-#[derive(Clone, Copy)]
+#[derive(Clone, Copy, Debug, PartialEq, Eq)]
 pub enum Command<'a> {
     Help,
-    /// an account of standard input
-    Input,
-    /// an account of this file
-    File(&'a str),
-    Unknown(&'a str),
-    TooMany,
+    /// an account of this file, or of standard input
+    Account(Option<&'a str>),
 }
 
 /// The words of the command line behind the program's own name.
-pub fn arguments(rt: &HostRuntime) -> io::Result<Vec<String>> {
-    let mut words = Vec::new(rt.alloc());
-    for word in env::args(rt)?.skip(1) {
-        if words.push(word).is_err() {
-            return Err(io::Error::from(io::ErrorKind::OutOfMemory));
-        }
-    }
-    Ok(words)
+pub fn arguments<R: Env + AllocGlobal>(rt: &R) -> io::Result<Vec<String>> {
+    Ok(env::args(rt)?.skip(1).collect(rt.alloc())?)
 }
 
-/// The command that the words make: help wins, then an option that there is not.
-pub fn read<'a>(words: &'a [String]) -> Command<'a> {
-    let mut command = Command::Input;
-    let mut names = 0;
-    for word in words {
-        let word = word.as_str();
-        if word == "--help" || word == "-h" {
-            return Command::Help;
-        }
-        if is_option(word) {
-            return Command::Unknown(word);
-        }
-        command = if word == "-" {
-            Command::Input
-        } else {
-            Command::File(word)
-        };
-        if names < 2 {
-            names += 1;
-        }
+/// The command that the words make; the first option among them decides.
+pub fn read(words: &[String]) -> Result<Command<'_>, Complaint<'_>> {
+    let option = words
+        .iter()
+        .map(|word| word.as_str())
+        .find(|word| is_option(word));
+    match (option, words) {
+        (Some("--help" | "-h"), _) => Ok(Command::Help),
+        (Some(option), _) => Err(Complaint::UnknownOption(option)),
+        (None, []) => Ok(Command::Account(None)),
+        (None, [name]) => Ok(Command::Account(Some(name.as_str()).filter(|name| *name != "-"))),
+        (None, _) => Err(Complaint::TooMany),
     }
-    if names > 1 { Command::TooMany } else { command }
 }
 
 fn is_option(word: &str) -> bool {

@@ -4,102 +4,101 @@
 mod account;
 mod cells;
 mod command;
+mod complaint;
+mod refusal;
 mod words;
 
 use command::Command;
-use document::Outline;
-use std::alloc::Global;
+use complaint::Complaint;
 use std::io::Read;
 use std::process::ExitCode;
+use std::rt::Files;
 use std::{fs, io};
 
-/// Why the program ends with status 1. The message has been printed.
+/// Why the program ends with status 1.
+// Not `anyhow::Error`: it keeps 120 bytes of a message, and the name of a file can be longer.
 #[derive(Drop)]
-enum Stopped {
-    Said,
+enum Stopped<'a> {
+    Complaint(Complaint<'a>),
+    /// a table is refused, as its account says
+    Refused,
+    /// the account cannot be printed
     Output(io::Error),
 }
 
-impl From<io::Error> for Stopped {
-    fn from(error: io::Error) -> Stopped {
+impl<'a> From<Complaint<'a>> for Stopped<'a> {
+    fn from(complaint: Complaint<'a>) -> Stopped<'a> {
+        Stopped::Complaint(complaint)
+    }
+}
+
+impl From<io::Error> for Stopped<'_> {
+    fn from(error: io::Error) -> Self {
         Stopped::Output(error)
     }
 }
 
-fn complain(rt: &HostRuntime, message: &str) -> Result<(), Stopped> {
-    eprintln!(rt; "starpage: {message}")?;
-    Err(Stopped::Said)
-}
-
 /// The bytes of a document: of the file of this name, or of standard input where there is none.
-fn read_document(rt: &HostRuntime, name: Option<&str>) -> io::Result<Vec<u8>> {
-    let Some(path) = name else {
-        let mut text = Vec::new(rt.alloc());
-        rt.stdin().read_to_end(&mut text)?;
-        return Ok(text);
-    };
-    fs::read(rt, path)
+fn read_document<R: Input + Files + AllocGlobal>(
+    rt: &R,
+    name: Option<&str>,
+) -> io::Result<Vec<u8>> {
+    if let Some(path) = name {
+        return fs::read(rt, path);
+    }
+    let mut text = Vec::new(rt.alloc());
+    rt.reader().read_to_end(&mut text)?;
+    Ok(text)
 }
 
-/// Prints the account of a document, and says what of it was not fine.
-fn print_account(
-    rt: &HostRuntime,
-    shown: &str,
-    text: &[u8],
-    outline: &Outline,
-) -> Result<(), Stopped> {
-    let refused = account::print_tables(rt, text, outline.tables.as_slice())?;
+/// Prints the account of a document.
+fn give_account<'a, R: Print + Input + Files + AllocGlobal>(
+    rt: &R,
+    name: Option<&'a str>,
+) -> Result<(), Stopped<'a>> {
+    let shown = name.unwrap_or("standard input");
+    let text = read_document(rt, name).map_err(|error| Complaint::Unreadable(shown, error))?;
+    let outline = document::find_tables(rt.alloc(), text.as_slice()).map_err(
+        |_| Complaint::Memory,
+    )?;
+    let refused = account::print_tables(rt, text.as_slice(), outline.tables.as_slice())?;
     if let Some(line) = outline.unclosed {
-        eprintln!(rt; "starpage: {shown}: the table block that line {line} opens is never closed")?;
-        return Err(Stopped::Said);
+        return Err(Stopped::Complaint(Complaint::Unclosed(shown, line)));
     }
     if outline.tables.is_empty() {
-        eprintln!(rt; "starpage: {shown}: there is no table in this document")?;
-        return Err(Stopped::Said);
+        return Err(Stopped::Complaint(Complaint::NoTable(shown)));
     }
     if refused > 0 {
-        Err(Stopped::Said)
-    } else {
-        Ok(())
+        return Err(Stopped::Refused);
     }
+    Ok(())
 }
 
-fn give_account(rt: &HostRuntime, name: Option<&str>) -> Result<(), Stopped> {
-    let shown = name.unwrap_or("standard input");
-    let text = match read_document(rt, name) {
-        Ok(text) => text,
-        Err(error) => {
-            eprintln!(rt; "starpage: {shown} cannot be read: {error}")?;
-            return Err(Stopped::Said);
-        }
-    };
-    let heap: Global = rt.alloc();
-    let Ok(outline) = document::find_tables(heap, text.as_slice()) else {
-        return complain(rt, "there is not enough memory");
-    };
-    print_account(rt, shown, text.as_slice(), &outline)
-}
-
-fn run(rt: &HostRuntime) -> Result<(), Stopped> {
-    let arguments = match command::arguments(rt) {
-        Ok(arguments) => arguments,
-        Err(_) => return complain(rt, "the arguments cannot be read"),
-    };
-    match command::read(arguments.as_slice()) {
+fn run<'a, R: Print + Input + Files + AllocGlobal>(
+    rt: &R,
+    words: &'a [String],
+) -> Result<(), Stopped<'a>> {
+    match command::read(words)? {
         Command::Help => Ok(rt.print(words::HELP)?),
-        Command::Input => give_account(rt, None),
-        Command::File(path) => give_account(rt, Some(path)),
-        Command::Unknown(option) => {
-            eprintln!(rt; "starpage: there is no option {option}; --help lists what there is")?;
-            Err(Stopped::Said)
-        }
-        Command::TooMany => complain(rt, "one document at a time; --help says more"),
+        Command::Account(name) => give_account(rt, name),
     }
+}
+
+/// The status to end with. A complaint is printed first; where that fails there is nobody left to tell.
+fn end(rt: &impl Eprint, done: Result<(), Stopped<'_>>) -> ExitCode {
+    match done {
+        Ok(()) => return ExitCode::SUCCESS,
+        Err(Stopped::Complaint(complaint)) => {
+            let _ = eprintln!(rt; "starpage: {complaint}");
+        }
+        Err(Stopped::Refused | Stopped::Output(_)) => {}
+    }
+    ExitCode::FAILURE
 }
 
 fn main(rt: HostRuntime) -> ExitCode {
-    match run(&rt) {
-        Ok(()) => ExitCode::SUCCESS,
-        Err(_) => ExitCode::FAILURE,
+    match command::arguments(&rt) {
+        Ok(words) => end(&rt, run(&rt, words.as_slice())),
+        Err(_) => end(&rt, Err(Stopped::Complaint(Complaint::Arguments))),
     }
 }

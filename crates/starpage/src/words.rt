@@ -1,8 +1,12 @@
-// The program's words: its help, the names of kinds, formats and styles, and refusals.
-use document::Format;
-use sheet::{SheetRefusal, kind};
+// The program's words: its help, and how it writes kinds, formats, columns, specifiers, texts, notes and refusals.
+ghost use Rattle.std.specs.Iterator.{IsFinite};
+
+use cut::{Note, NoteKind};
+use document::{Columns, Format, Options, Place};
+use sheet::{Kind, SheetRefusal, Token};
 use starts::{Horizontal, Specifier, Vertical};
-use std::io;
+use std::fmt;
+use styles::Style;
 
 pub const HELP: &str = "starpage: an account of the tables of an AsciiDoc document
 
@@ -21,145 +25,264 @@ cannot be read and a table that is refused end with status 1.
 ";
 
 /// The kinds that decide where cells begin and end.
-pub const KINDS: [u8; 17] = [
-    kind::WORD,
-    kind::DIGITS,
-    kind::WHITESPACE,
-    kind::NEWLINE,
-    kind::PIPE,
-    kind::COMMA,
-    kind::COLON,
-    kind::SEMI_COLON,
-    kind::DOUBLE_QUOTE,
-    kind::BACKSLASH,
-    kind::STAR,
-    kind::PLUS,
-    kind::DOTS,
-    kind::LESS_THAN,
-    kind::GREATER_THAN,
-    kind::CARET,
-    kind::CALLOUT_NUMBER,
+pub const KINDS: [Kind; 17] = [
+    Kind::Word,
+    Kind::Digits,
+    Kind::Whitespace,
+    Kind::Newline,
+    Kind::Pipe,
+    Kind::Comma,
+    Kind::Colon,
+    Kind::SemiColon,
+    Kind::DoubleQuote,
+    Kind::Backslash,
+    Kind::Star,
+    Kind::Plus,
+    Kind::Dots,
+    Kind::LessThan,
+    Kind::GreaterThan,
+    Kind::Caret,
+    Kind::CalloutNumber,
 ];
 
-pub fn kind_name(number: u8) -> &'static str {
-    match number {
-        kind::WORD => "Word",
-        kind::DIGITS => "Digits",
-        kind::WHITESPACE => "Whitespace",
-        kind::NEWLINE => "Newline",
-        kind::PIPE => "Pipe",
-        kind::COMMA => "Comma",
-        kind::COLON => "Colon",
-        kind::SEMI_COLON => "SemiColon",
-        kind::DOUBLE_QUOTE => "DoubleQuote",
-        kind::BACKSLASH => "Backslash",
-        kind::STAR => "Star",
-        kind::PLUS => "Plus",
-        kind::DOTS => "Dots",
-        kind::LESS_THAN => "LessThan",
-        kind::GREATER_THAN => "GreaterThan",
-        kind::CARET => "Caret",
-        kind::CALLOUT_NUMBER => "CalloutNumber",
-        _ => "other",
+/// A value in the program's words.
+// A newtype: a `Display` of another crate's type cannot stand here, and `replay` writes the same types otherwise.
+#[derive(Clone, Copy)]
+pub struct Said<T>(pub T);
+
+/// Two things with a blank between.
+#[derive(Clone, Copy)]
+struct Pair<A, B>(A, B);
+
+impl<A: fmt::Display, B: fmt::Display> fmt::Display for Pair<A, B> {
+    fn fmt<W: fmt::Write>(&self, f: &mut fmt::Formatter<W>) -> fmt::Result {
+        write!(f, "{} {}", self.0, self.1)
     }
 }
 
-pub fn format_name(format: Format) -> &'static str {
-    match format {
-        Format::Prefix => "prefix",
-        Format::Csv => "CSV",
-        Format::Dsv => "DSV",
+/// So many things of a name, which has an `s` behind it unless there is one.
+#[derive(Clone, Copy)]
+pub struct Counted(pub usize, pub &'static str);
+
+impl fmt::Display for Counted {
+    fn fmt<W: fmt::Write>(&self, f: &mut fmt::Formatter<W>) -> fmt::Result {
+        let Counted(count, name) = *self;
+        write!(f, "{count} {name}{}", if count == 1 { "" } else { "s" })
     }
 }
 
-pub fn style_name(style: u8) -> &'static str {
-    match style {
-        document::EMPHASIS => "emphasis",
-        document::HEADER => "header",
-        document::MONOSPACE => "monospace",
-        document::STRONG => "strong",
-        document::LITERAL => "literal",
-        document::ASCIIDOC => "AsciiDoc",
-        _ => "default",
+/// A separator.
+impl fmt::Display for Said<char> {
+    fn fmt<W: fmt::Write>(&self, f: &mut fmt::Formatter<W>) -> fmt::Result {
+        match self.0 {
+            '\t' => f.write_str("tab"),
+            separator => write!(f, "{separator}"),
+        }
     }
 }
 
-pub fn refusal_words(refusal: SheetRefusal) -> &'static str {
-    match refusal {
-        SheetRefusal::TextTooLong => "the table has more than 1,048,576 bytes",
-        SheetRefusal::TooManyTokens => "the table has more than 262,144 tokens",
-        SheetRefusal::UnsoundToken { token: _ } => "a token is not what its kind says",
+impl fmt::Display for Said<Format> {
+    fn fmt<W: fmt::Write>(&self, f: &mut fmt::Formatter<W>) -> fmt::Result {
+        f.write_str(match self.0 {
+            Format::Prefix => "prefix",
+            Format::Csv => "CSV",
+            Format::Dsv => "DSV",
+        })
     }
 }
 
-pub fn note_words(number: u8) -> &'static str {
-    match number {
-        1 => "no cell starts here; the text is a cell with nothing written",
-        3 => "a double quote outside quotes, dropped",
-        4 => "the field that this quote opens is never closed",
-        _ => "see the list of notes",
+/// How many columns there are, and the styles other than the default of those whose style is kept.
+impl fmt::Display for Said<&Columns> {
+    fn fmt<W: fmt::Write>(&self, f: &mut fmt::Formatter<W>) -> fmt::Result {
+        let Said(columns) = *self;
+        if columns.count == 0 {
+            return f.write_str("not given");
+        }
+        write!(f, "{}", columns.count)?;
+        let styled = (1usize..=document::MAX_STYLES)
+            .zip(columns.kept())
+            .map(|(place, style)| Pair(place, *style))
+            .filter(|column| column.1 != Style::Default);
+        write_list(f, styled, " (", ")", "")
     }
 }
 
-/// Prints what a specifier says, as it is written in front of a cell, and a blank behind it.
-pub fn print_specifier(rt: &HostRuntime, specifier: Specifier) -> io::Result<()> {
-    let factor = specifier.factor;
-    let columns = specifier.columns;
-    let rows = specifier.rows;
-    if factor != 1 {
-        print!(rt; "{factor}*")?;
-    }
-    if columns != 1 {
-        print!(rt; "{columns}")?;
-    }
-    if rows != 1 {
-        print!(rt; ".{rows}")?;
-    }
-    rt.print(if columns != 1 || rows != 1 { "+" } else { "" })?;
-    rt.print(horizontal_mark(specifier.horizontal))?;
-    rt.print(vertical_mark(specifier.vertical))?;
-    rt.print(style_letter(specifier.style))?;
-    rt.print(if is_written(specifier) { " " } else { "" })
-}
-
-fn is_written(specifier: Specifier) -> bool {
-    specifier.factor != 1
-        || specifier.columns != 1
-        || specifier.rows != 1
-        || specifier.horizontal.is_some()
-        || specifier.vertical.is_some()
-        || specifier.style.is_some()
-}
-
-fn horizontal_mark(alignment: Option<Horizontal>) -> &'static str {
-    match alignment {
-        Some(Horizontal::Left) => "<",
-        Some(Horizontal::Right) => ">",
-        Some(Horizontal::Center) => "^",
-        None => "",
+impl fmt::Display for Said<Options> {
+    fn fmt<W: fmt::Write>(&self, f: &mut fmt::Formatter<W>) -> fmt::Result {
+        let Options {
+            header,
+            noheader,
+            footer,
+        } = self.0;
+        let given = [
+            header.then_some("header"),
+            noheader.then_some("noheader"),
+            footer.then_some("footer"),
+        ];
+        write_list(f, given.iter().flatten(), "", "", "none")
     }
 }
 
-fn vertical_mark(alignment: Option<Vertical>) -> &'static str {
-    match alignment {
-        Some(Vertical::Top) => ".<",
-        Some(Vertical::Bottom) => ".>",
-        Some(Vertical::Middle) => ".^",
-        None => "",
+/// How many tokens there are, and how many of each of `KINDS`.
+impl fmt::Display for Said<&[Token]> {
+    fn fmt<W: fmt::Write>(&self, f: &mut fmt::Formatter<W>) -> fmt::Result {
+        let Said(tokens) = *self;
+        write!(f, "{}", tokens.len())?;
+        // Counted by number in one pass over the tokens, and not once for each kind.
+        let mut counts = [0usize; 256];
+        for token in tokens {
+            let kind = usize::from(token.kind);
+            counts[kind] = counts[kind].saturating_add(1);
+        }
+        let counted = KINDS
+            .iter()
+            .map(|kind| Pair(*kind, counts[usize::from(kind.number())]))
+            .filter(|counted| counted.1 > 0);
+        write_list(f, counted, ": ", "", "")
     }
 }
 
-fn style_letter(style: Option<u8>) -> &'static str {
-    let Some(number) = style else {
-        return "";
+/// Writes items with commas between, with `before` and `after` around them; `none` where there is no item.
+fn write_list<W: fmt::Write, I: Iterator + Drop>(
+    f: &mut fmt::Formatter<W>,
+    mut items: I,
+    before: &str,
+    after: &str,
+    none: &str,
+) -> fmt::Result
+where
+    I::Item: fmt::Display + Drop,
+    requires can { I.can_next items }
+    requires ends { IsFinite (I.remaining items) }
+{
+    let Some(first) = items.next() else {
+        return f.write_str(none);
     };
-    match number {
-        document::EMPHASIS => "e",
-        document::HEADER => "h",
-        document::MONOSPACE => "m",
-        document::STRONG => "s",
-        document::LITERAL => "l",
-        document::ASCIIDOC => "a",
-        _ => "d",
+    write!(f, "{before}{first}")?;
+    for item in items {
+        write!(f, ", {item}")?;
+    }
+    f.write_str(after)
+}
+
+impl fmt::Display for Said<Place> {
+    fn fmt<W: fmt::Write>(&self, f: &mut fmt::Formatter<W>) -> fmt::Result {
+        let Place { line, column } = self.0;
+        write!(f, "{line}:{column}")
+    }
+}
+
+impl fmt::Display for Said<SheetRefusal> {
+    fn fmt<W: fmt::Write>(&self, f: &mut fmt::Formatter<W>) -> fmt::Result {
+        f.write_str(match self.0 {
+            SheetRefusal::TextTooLong => "the table has more than 1,048,576 bytes",
+            SheetRefusal::TooManyTokens => "the table has more than 262,144 tokens",
+            SheetRefusal::UnsoundToken { token: _ } => "a token is not what its kind says",
+        })
+    }
+}
+
+/// What a note says.
+impl fmt::Display for Said<Note> {
+    fn fmt<W: fmt::Write>(&self, f: &mut fmt::Formatter<W>) -> fmt::Result {
+        match NoteKind::try_from(self.0.number) {
+            Ok(kind) => kind.fmt(f),
+            Err(_) => f.write_str("see the list of notes"),
+        }
+    }
+}
+
+/// Bytes as text, a line feed as `\n` and what is no text as `\x` and two digits.
+impl fmt::Display for Said<&[u8]> {
+    fn fmt<W: fmt::Write>(&self, f: &mut fmt::Formatter<W>) -> fmt::Result {
+        let Said(bytes) = *self;
+        if bytes == b"\n".as_slice() {
+            return f.write_str("\\n");
+        }
+        if let Ok(text) = std::str::from_utf8(bytes) {
+            return f.write_str(text);
+        }
+        for byte in bytes {
+            write!(f, "\\x{byte:02x}")?;
+        }
+        Ok(())
+    }
+}
+
+/// What a specifier says, as it is written in front of a cell, and a blank behind it.
+impl fmt::Display for Said<Specifier> {
+    fn fmt<W: fmt::Write>(&self, f: &mut fmt::Formatter<W>) -> fmt::Result {
+        let Specifier {
+            factor,
+            columns,
+            rows,
+            horizontal,
+            vertical,
+            style,
+        } = self.0;
+        if self.0 == Specifier::NOTHING {
+            return Ok(());
+        }
+        if factor != 1 {
+            write!(f, "{factor}*")?;
+        }
+        if columns != 1 {
+            write!(f, "{columns}")?;
+        }
+        if rows != 1 {
+            write!(f, ".{rows}")?;
+        }
+        if columns != 1 || rows != 1 {
+            f.write_str("+")?;
+        }
+        write!(f, "{}{}{} ", Said(horizontal), Said(vertical), Said(style))
+    }
+}
+
+impl fmt::Display for Said<Horizontal> {
+    fn fmt<W: fmt::Write>(&self, f: &mut fmt::Formatter<W>) -> fmt::Result {
+        f.write_str(match self.0 {
+            Horizontal::Left => "<",
+            Horizontal::Right => ">",
+            Horizontal::Center => "^",
+        })
+    }
+}
+
+impl fmt::Display for Said<Vertical> {
+    fn fmt<W: fmt::Write>(&self, f: &mut fmt::Formatter<W>) -> fmt::Result {
+        f.write_str(match self.0 {
+            Vertical::Top => ".<",
+            Vertical::Bottom => ".>",
+            Vertical::Middle => ".^",
+        })
+    }
+}
+
+/// The letter that names a style.
+impl fmt::Display for Said<Style> {
+    fn fmt<W: fmt::Write>(&self, f: &mut fmt::Formatter<W>) -> fmt::Result {
+        f.write_str(match self.0 {
+            Style::Default => "d",
+            Style::Emphasis => "e",
+            Style::Header => "h",
+            Style::Monospace => "m",
+            Style::Strong => "s",
+            Style::Literal => "l",
+            Style::AsciiDoc => "a",
+        })
+    }
+}
+
+/// What is there, or nothing.
+impl<T: Copy> fmt::Display for Said<Option<T>>
+where
+    Said<T>: fmt::Display,
+{
+    fn fmt<W: fmt::Write>(&self, f: &mut fmt::Formatter<W>) -> fmt::Result {
+        match self.0 {
+            Some(value) => Said(value).fmt(f),
+            None => Ok(()),
+        }
     }
 }

@@ -3,14 +3,16 @@
 use Rattle.std.proofs.Common.{◌≡◌, ℕ, ◌<◌, Bool, true, false, cond, not, ◌&&◌, ◌||◌, eqb, ltb, List, [], ◌∷◌, length, get_or, is_some, Some, None, Option, sym, refl, ap, ◌∙◌, subst, ⊎_elim, arith}
 use Rattle.std.proofs.lemmas.Bool.{cond-false, lt-ltb, eq-eqb, ne_eqb, and_cases, and_left, and_right, or_parts}
 use Rattle.sheet.specs.Kinds.{callout_number, caret, digits, dots, greater_than, less_than, word}
-use Rattle.sheet.specs.Left.{Left, left_at, behind_bytes}
+use Rattle.styles.specs.Styles.{style_named}
+use Rattle.styles.specs.declared.Style.{Style}
+use Rattle.sheet.specs.Left.{Left, left_at, behind_bytes, plain}
 use Rattle.sheet.specs.View.{SheetView}
-use Rattle.starts.specs.Fronts.{begins, plain, dot, callout, has_byte}
+use Rattle.starts.specs.Fronts.{begins, dot, callout, has_byte}
 use Rattle.starts.specs.Parts.{Said, Found, taking, factor_form, factor_part, column_form, column_span, row_form, row_span, both_form, both_span, span_by, span_part, alignment_part, vertical_part, parts_of}
 use Rattle.starts.specs.declared.parts.Alignment.{Alignment}
 use Rattle.starts.specs.declared.parts.Span.{Span}
 use Rattle.starts.specs.declared.specifier.Vertical.{Vertical}
-use Rattle.starts.specs.Start.{Started, StartIs, start_of, start_behind, start_by, style_of, may_start, part_kind, nothing_written}
+use Rattle.starts.specs.Start.{Started, StartIs, start_of, start_behind, start_by, may_start, part_kind, nothing_written}
 use Rattle.starts.specs.declared.specifier.Start.{Start}
 
 -- a token that begins with the separator starts a cell
@@ -89,14 +91,14 @@ pub no_start : (sep : ℕ) (t : Left) (ts : List Left) → (get_or t.bytes 0 0 �
 no_start sep t ts s m =
     cond-false (begins (has_byte sep 0 ∷ []) (t ∷ ts)) _ _ (and_left (has_byte sep 0 t) _ (and_right (not t.replaced) _ (and_right (ltb 0 (length t.bytes)) _ (ne_eqb (get_or t.bytes 0 0) sep s))))
     ∙ ap (start_behind sep) (no_part t ts (part t.replaced (part_kind t.kind) _ m))
-    ∙ ap (start_by sep (absent_before (t ∷ ts))) (style t.replaced (part_kind t.kind) (eqb t.kind word) (style_of (get_or t.bytes 0 0)) m)
+    ∙ ap (start_by sep (absent_before (t ∷ ts))) (style t.replaced (part_kind t.kind) (eqb t.kind word) (style_named (get_or t.bytes 0 0)) m)
   where
     part : (r p w : Bool) → (not r && (p || w)) ≡ false → (not r && p) ≡ false
     part true p w e = refl
     part false true w e = e
     part false false w e = refl
 
-    style : (r p w : Bool) (o : Option ℕ) → (not r && (p || (w && is_some o))) ≡ false → cond (not r && w) o None ≡ None
+    style : (r p w : Bool) (o : Option Style) → (not r && (p || (w && is_some o))) ≡ false → cond (not r && w) o None ≡ None
     style true p w o e = refl
     style false true w o e = let z : ◌≡◌ {A = ℕ} 0 1 = cc in absurd (omega arith)
     style false false false o e = refl

@@ -1,14 +1,15 @@
 -- What holds of every start: it takes something, it keeps what holds of the tokens, and its specifier is in bounds.
 -- Assumes nothing.
-use Rattle.std.proofs.Common.{◌≡◌, ℕ, zero, suc, ◌+◌, ◌<◌, ◌≤◌, Bool, true, false, cond, ◌&&◌, eqb, ltb, List, [], ◌∷◌, length, get_or, drop, Some, None, Option, sym, refl, ap, ◌∙◌, subst, arith}
+use Rattle.std.proofs.Common.{◌≡◌, ℕ, zero, suc, ◌+◌, ◌<◌, ◌≤◌, Bool, true, false, cond, ◌&&◌, ltb, List, [], ◌∷◌, length, drop, Some, None, Option, sym, refl, ap, ◌∙◌, subst, arith}
 use Rattle.std.specs.List.{AllByRecursion}
 use Rattle.std.proofs.lemmas.List.{drop-drop, length-drop}
 use Rattle.std.proofs.lemmas.Bool.{and_parts, ltb-true}
-use Rattle.sheet.specs.Kinds.{word}
+use Rattle.styles.specs.declared.Style.{Style}
+use Rattle.styles.specs.declared.Style.TheVariants.{Default, Emphasis, Header, Monospace, Strong, Literal, AsciiDoc}
 use Rattle.sheet.specs.Left.{Left, back_of, behind_bytes, behind_token}
-use Rattle.starts.specs.Fronts.{begins, in_front, plain, dot, has_byte, single, just}
+use Rattle.starts.specs.Fronts.{begins, in_front, dot, has_byte, single, just}
 use Rattle.starts.specs.Parts.{Said, taking, number_at, span_of, span_by, factor_form, factor_part, column_form, column_span, row_form, row_span, both_form, both_span, span_part, alignment_of, alignment_part, vertical_of, vertical_part, parts_of, written}
-use Rattle.starts.specs.Start.{Started, start_of, start_behind, start_by, style_in, style_of, specified, nothing_written, columns_of, rows_of, short_start, long_start, KnownStyle}
+use Rattle.starts.specs.Start.{Started, start_of, start_behind, start_by, style_in, specified, nothing_written, columns_of, rows_of, short_start, long_start, KnownStyle}
 use Rattle.starts.specs.Weight.{weight}
 use Rattle.starts.specs.declared.parts.Span.{Span}
 
@@ -23,16 +24,16 @@ module _ (Q : Started → Type 0) where
 
   module _ (sep : ℕ) (p : Said)
       (plain_one : begins (just sep ∷ []) p.left ≡ true → Q (record { specifier = specified p.parts None; left = behind_token p.left }))
-      (short_one : (n : ℕ) → in_front style_in p.left ≡ Some n → begins (single ∷ []) p.left ≡ true → begins (just sep ∷ []) (behind_token p.left) ≡ true
+      (short_one : (n : Style) → in_front style_in p.left ≡ Some n → begins (single ∷ []) p.left ≡ true → begins (just sep ∷ []) (behind_token p.left) ≡ true
       → Q (record { specifier = specified p.parts (Some n); left = behind_token (behind_token p.left) }))
-      (long_one : (n : ℕ) → in_front style_in p.left ≡ Some n → begins (has_byte sep 1 ∷ []) p.left ≡ true
+      (long_one : (n : Style) → in_front style_in p.left ≡ Some n → begins (has_byte sep 1 ∷ []) p.left ≡ true
       → Q (record { specifier = specified p.parts (Some n); left = behind_bytes 2 p.left })) where
-    styled : (n : ℕ) (b : Bool) (s : Started) → in_front style_in p.left ≡ Some n → begins (single ∷ []) p.left ≡ b → cond b (short_start sep p n) (long_start sep p n) ≡ Some s → Q s
+    styled : (n : Style) (b : Bool) (s : Started) → in_front style_in p.left ≡ Some n → begins (single ∷ []) p.left ≡ b → cond b (short_start sep p n) (long_start sep p n) ≡ Some s → Q s
     styled n true s e f h = tested (begins (just sep ∷ []) (behind_token p.left)) s _ h (short_one n e f)
     styled n false s e f h =
         tested (written p.parts && begins (has_byte sep 1 ∷ []) p.left) s _ h (λ t. long_one n e (and_parts (written p.parts) _ t).1)
 
-    by_style : (o : Option ℕ) (s : Started) → in_front style_in p.left ≡ o → start_by sep p o ≡ Some s → Q s
+    by_style : (o : Option Style) (s : Started) → in_front style_in p.left ≡ o → start_by sep p o ≡ Some s → Q s
     by_style None s e h = tested (written p.parts && begins (just sep ∷ []) p.left) s _ h (λ t. plain_one (and_parts (written p.parts) _ t).1)
     by_style (Some n) s e h = styled n (begins (single ∷ []) p.left) s e refl h
 
@@ -169,25 +170,16 @@ start_spans sep ts s h =
     let w = wide_part (factor_part ts).left in
     one_of (λ x. (1 ≤ x.specifier.columns) × (1 ≤ x.specifier.rows)) sep (parts_of ts) (λ b. w) (λ n e b f. w) (λ n e b. w) ts s refl (λ b. (omega arith, omega arith)) h
 
-six_if : (b : Bool) (n : ℕ) (o : Option ℕ) → n ≤ 6 → KnownStyle o → KnownStyle (cond b (Some n) o)
-six_if true n o l h = l
-six_if false n o l h = h
-
-six_of : (c : ℕ) → KnownStyle (style_of c)
-six_of c =
-    six_if (eqb c 100) 0 _ (omega arith) (six_if (eqb c 101) 1 _ (omega arith) (six_if (eqb c 104) 2 _ (omega arith) (six_if (eqb c 109) 3 _ (omega arith)
-    (six_if (eqb c 115) 4 _ (omega arith) (six_if (eqb c 108) 5 _ (omega arith) (six_if (eqb c 97) 6 None (omega arith) tt))))))
-
-six_front : (ts : List Left) → KnownStyle (in_front style_in ts)
-six_front [] = tt
-six_front (t ∷ ts) = go (plain word t)
-  where
-    go : (b : Bool) → KnownStyle (cond b (style_of (get_or t.bytes 0 0)) None)
-    go true = six_of (get_or t.bytes 0 0)
-    go false = tt
+six_of : (o : Option Style) → KnownStyle o
+six_of None = tt
+six_of (Some Default) = omega arith
+six_of (Some Emphasis) = omega arith
+six_of (Some Header) = omega arith
+six_of (Some Monospace) = omega arith
+six_of (Some Strong) = omega arith
+six_of (Some Literal) = omega arith
+six_of (Some AsciiDoc) = omega arith
 
 -- The style of a start is a known one.
 pub start_style : (sep : ℕ) (ts : List Left) (s : Started) → start_of sep ts ≡ Some s → KnownStyle s.specifier.style
-start_style sep ts s h =
-    let six : (n : ℕ) → in_front style_in (parts_of ts).left ≡ Some n → n ≤ 6 = λ n e. subst KnownStyle e (six_front (parts_of ts).left) in
-    one_of (λ x. KnownStyle x.specifier.style) sep (parts_of ts) (λ b. tt) (λ n e b f. six n e) (λ n e b. six n e) ts s refl (λ b. tt) h
+start_style sep ts s h = six_of s.specifier.style

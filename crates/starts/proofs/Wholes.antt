@@ -4,13 +4,13 @@ use Rattle.std.proofs.Common.{◌≡◌, ℕ, zero, suc, ◌+◌, ◌-◌, ◌�
 use Rattle.std.proofs.lemmas.List.{drop-drop, length-take, length-drop}
 use Rattle.std.proofs.lemmas.Bool.{lt-ltb, and_parts, cond-true}
 use Rattle.sheet.specs.Kinds.{digits, dots, plus}
-use Rattle.sheet.specs.Left.{token_from, wholes, left_from, left}
+use Rattle.sheet.specs.Left.{token_from, wholes, left_from, left, plain}
 use Rattle.sheet.specs.Sound.{text_of, sound_token, all_sound}
 use Rattle.sheet.specs.View.{SheetView}
 use Rattle.sheet.specs.declared.records.Token.{Token}
 use Rattle.sheet.proofs.Tokens.{ends_inside, token_has_byte, sound_drop}
 use Rattle.starts.specs.Forms.{plain_token, dot_token, digits_form, rows_form, spans_form}
-use Rattle.starts.specs.Fronts.{begins, plain, dot}
+use Rattle.starts.specs.Fronts.{begins, dot}
 use Rattle.starts.specs.Parts.{column_form, row_form, both_form}
 
 -- behind n whole tokens are whole tokens

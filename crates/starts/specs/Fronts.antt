@@ -3,7 +3,7 @@
 -- Assumes nothing.
 use Rattle.std.specs.Prelude.{ℕ, Bool, true, false, not, ◌&&◌, List, [], ◌∷◌, length, None, Option, ◌==◌, nat_lt, slice_index}
 use Rattle.sheet.specs.Kinds.{callout_number, dots}
-use Rattle.sheet.specs.Left.{Left}
+use Rattle.sheet.specs.Left.{Left, plain}
 
 -- the tokens begin with one for each test, in order, that passes it
 abbrev pub begins : {X : Type 0} → List (X → Bool) → List X → Bool
@@ -15,10 +15,6 @@ begins (p ∷ ps) (t ∷ ts) = p t && begins ps ts
 abbrev pub in_front : {X : Type 0} → (Left → Option X) → List Left → Option X
 in_front f [] = None
 in_front f (t ∷ ts) = f t
-
--- an unreplaced token of a kind
-abbrev pub plain : ℕ → Left → Bool
-plain k t = not t.replaced && t.kind == k
 
 -- Dots of length 1
 abbrev pub dot : Left → Bool

@@ -4,3 +4,4 @@ pub mod Forms
 pub mod Parts
 pub mod Start
 pub mod Weight
+pub mod Reads

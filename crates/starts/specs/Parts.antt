@@ -3,10 +3,10 @@
 -- Assumes nothing.
 use Rattle.std.specs.Prelude.{ℕ, max, Bool, cond, ◌||◌, List, [], ◌∷◌, drop, is_some, Some, None, Option}
 use Rattle.sheet.specs.Kinds.{caret, digits, greater_than, less_than, plus, star}
-use Rattle.sheet.specs.Left.{Left, left, left_at}
+use Rattle.sheet.specs.Left.{Left, left, left_at, plain}
 use Rattle.sheet.specs.View.{SheetView}
 use Rattle.sheet.specs.declared.records.Place.{Place}
-use Rattle.starts.specs.Fronts.{begins, in_front, plain, dot, callout}
+use Rattle.starts.specs.Fronts.{begins, in_front, dot, callout}
 use Rattle.starts.specs.Numbers.{small}
 use Rattle.starts.specs.declared.parts.Alignment.{Alignment}
 use Rattle.starts.specs.declared.parts.Parts.{Parts}

@@ -1,10 +1,12 @@
 -- Where a cell starts, for a separator byte.
 -- Assumes nothing.
 use Rattle.std.specs.Prelude.{◌≡◌, ℕ, ◌≤◌, Bool, cond, ◌&&◌, ◌||◌, List, [], ◌∷◌, is_some, Some, None, Option, ◌==◌, slice_index}
+use Rattle.styles.specs.Styles.{number_of, style_named}
+use Rattle.styles.specs.declared.Style.{Style}
 use Rattle.sheet.specs.Kinds.{callout_number, caret, digits, dots, greater_than, less_than, word}
-use Rattle.sheet.specs.Left.{Left, left_at, behind_bytes, behind_token}
+use Rattle.sheet.specs.Left.{Left, left_at, behind_bytes, behind_token, plain}
 use Rattle.sheet.specs.View.{SheetView}
-use Rattle.starts.specs.Fronts.{begins, in_front, plain, has_byte, single, just}
+use Rattle.starts.specs.Fronts.{begins, in_front, has_byte, single, just}
 use Rattle.starts.specs.Parts.{Said, parts_of, written}
 use Rattle.starts.specs.declared.parts.Parts.{Parts}
 use Rattle.starts.specs.declared.parts.Alignment.{Alignment}
@@ -14,26 +16,14 @@ use Rattle.starts.specs.declared.specifier.Specifier.{Specifier}
 use Rattle.starts.specs.declared.specifier.Start.{Start}
 use Rattle.starts.specs.declared.specifier.Vertical.{Vertical}
 
--- The letters d, e, h, m, s, l and a name the styles 0 to 6: default, emphasis, header, monospace, strong, literal and
--- AsciiDoc. Case counts.
-abbrev pub style_of : ℕ → Option ℕ
-style_of c =
-    cond (c == 100) (Some 0)
-    (cond (c == 101) (Some 1)
-    (cond (c == 104) (Some 2)
-    (cond (c == 109) (Some 3)
-    (cond (c == 115) (Some 4)
-    (cond (c == 108) (Some 5)
-    (cond (c == 97) (Some 6) None))))))
-
 -- a style, where one is written, is one of the seven
-abbrev pub KnownStyle : Option ℕ → Type 0
+abbrev pub KnownStyle : Option Style → Type 0
 KnownStyle None = Unit {0}
-KnownStyle (Some n) = n ≤ 6
+KnownStyle (Some s) = number_of s ≤ 6
 
 -- A Word names the style of its first letter.
-abbrev pub style_in : Left → Option ℕ
-style_in t = cond (plain word t) (style_of (slice_index t.bytes 0)) None
+abbrev pub style_in : Left → Option Style
+style_in t = cond (plain word t) (style_named (slice_index t.bytes 0)) None
 
 -- a factor that is not written is 1
 abbrev pub factor_of : Option ℕ → ℕ
@@ -60,7 +50,7 @@ vertical_over None None = None
 vertical_over None (Some a) = a.vertical
 
 -- the specifier that the parts and a style make
-abbrev pub specified : Parts → Option ℕ → Specifier
+abbrev pub specified : Parts → Option Style → Specifier
 specified p s = record {
   factor = factor_of p.factor;
   columns = columns_of p.span;
@@ -87,20 +77,20 @@ plain_start sep p =
     None
 
 -- Behind the parts, with a style Word of one letter: then comes a token that is just the separator.
-abbrev pub short_start : ℕ → Said → ℕ → Option Started
+abbrev pub short_start : ℕ → Said → Style → Option Started
 short_start sep p s =
     cond (begins (just sep ∷ []) (behind_token p.left))
     (Some (record { specifier = specified p.parts (Some s); left = behind_token (behind_token p.left) }))
     None
 
 -- Behind the parts, with a longer style Word: the separator is its second byte, and a part has to be there.
-abbrev pub long_start : ℕ → Said → ℕ → Option Started
+abbrev pub long_start : ℕ → Said → Style → Option Started
 long_start sep p s =
     cond (written p.parts && begins (has_byte sep 1 ∷ []) p.left)
     (Some (record { specifier = specified p.parts (Some s); left = behind_bytes 2 p.left }))
     None
 
-abbrev pub start_by : ℕ → Said → Option ℕ → Option Started
+abbrev pub start_by : ℕ → Said → Option Style → Option Started
 start_by sep p None = plain_start sep p
 start_by sep p (Some s) = cond (begins (single ∷ []) p.left) (short_start sep p s) (long_start sep p s)
 
@@ -120,7 +110,7 @@ part_kind k = k == digits || (k == dots || (k == less_than || (k == greater_than
 
 -- A specifier begins with one of those kinds, or with a Word that names a style.
 abbrev pub may_start : ℕ → ℕ → Bool
-may_start k b = part_kind k || (k == word && is_some (style_of b))
+may_start k b = part_kind k || (k == word && is_some (style_named b))
 
 -- the code's start is that of the definition
 abbrev pub StartIs : SheetView → Option Start → Option Started → Type 0

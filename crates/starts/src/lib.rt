@@ -13,3 +13,4 @@ mod start;
 
 pub use specifier::{Horizontal, Specifier, Start, Vertical};
 pub use start::read_start;
+pub use styles::Style;

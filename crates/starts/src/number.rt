@@ -8,14 +8,7 @@ pub fn small_number(digits: &[u8]) -> Option<u8>
 {
     let mut n: u8 = 0;
     for byte in digits {
-        let digit = byte.saturating_sub(b'0');
-        let Some(tens) = n.checked_mul(10) else {
-            return None;
-        };
-        let Some(next) = tens.checked_add(digit) else {
-            return None;
-        };
-        n = next;
+        n = n.checked_mul(10)?.checked_add(byte.saturating_sub(b'0'))?;
     }
     Some(n)
 }

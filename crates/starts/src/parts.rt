@@ -1,50 +1,38 @@
 // The parts of a specifier before its style: factor, span, alignment, vertical alignment.
-ghost use Rattle.std.specs.Prelude.{◌≡◌, max, drop, Some, None};
+ghost use Rattle.std.specs.Prelude.{◌≡◌, max, drop, IfSome};
+ghost use Rattle.std.specs.Option.{option_map};
 ghost use Rattle.sheet.specs.Left.{left, left_at, seen_at};
 ghost use Rattle.sheet.specs.View.{view};
 ghost use Rattle.starts.specs.Fronts.{dot, left_bottom};
+ghost use Rattle.starts.specs.Reads.{here};
 ghost use Rattle.starts.specs.Parts.{found_at, said_at, parts_of, factor_part, column_span, row_span, both_span, span_part, alignment_of, alignment_part, vertical_of, vertical_part};
 
-use crate::cursor::{digits_at, number_of, tokens_from};
+use crate::cursor::Cursor;
 use crate::forms::{after_both, after_digits, after_row};
 use crate::specifier::{Horizontal, Vertical};
-use sheet::records::{Place, Seen};
-use sheet::{Sheet, kind};
+use sheet::{Kind, Place, Seen, Sheet};
 
 /// A span of columns and rows, each at least 1.
-#[derive(Clone, Copy)]
+#[derive(Clone, Copy, Debug, PartialEq, Eq, Hash)]
 pub struct Span {
     pub columns: u8,
     pub rows: u8,
 }
 
 /// What a sign says of alignment.
-#[derive(Clone, Copy)]
+#[derive(Clone, Copy, Debug, PartialEq, Eq, Hash)]
 pub struct Alignment {
     pub horizontal: Horizontal,
     pub vertical: Option<Vertical>,
 }
 
 /// What the parts say, each perhaps missing.
-#[derive(Clone, Copy)]
+#[derive(Clone, Copy, Debug, Default, PartialEq, Eq, Hash)]
 pub struct Parts {
     pub factor: Option<u8>,
     pub span: Option<Span>,
     pub alignment: Option<Alignment>,
     pub vertical: Option<Vertical>,
-}
-
-/// The factor at a token, and the number of the token behind it.
-fn read_factor(sheet: &Sheet<'_>, at: usize) -> (Option<u8>, usize)
-    ensures { found_at (view sheet.now) result.0 result.1 ≡ factor_part (left (view sheet.now) at 0) }
-{
-    let Some(rest) = after_digits(tokens_from(sheet, at), kind::STAR) else {
-        return (None, at);
-    };
-    let Some(count) = digits_at(sheet, at) else {
-        return (None, at);
-    };
-    (Some(count), number_of(sheet, rest))
 }
 
 /// A span as it is written: a 0 counts as 1.
@@ -57,101 +45,34 @@ fn span_of(columns: u8, rows: u8) -> Span
     }
 }
 
-/// A span of columns at a token.
-fn column_span(sheet: &Sheet<'_>, at: usize) -> Option<(Span, usize)>
-    ensures { elim result [
-      | Some x ↦ (column_span (left (view sheet.now) at 0) ≡ Some x.0) × (left (view sheet.now) x.1 0 ≡ drop 2 (left (view sheet.now) at 0))
-      | None ↦ column_span (left (view sheet.now) at 0) ≡ None
-    ] }
-{
-    let Some(rest) = after_digits(tokens_from(sheet, at), kind::PLUS) else {
-        return None;
-    };
-    let Some(columns) = digits_at(sheet, at) else {
-        return None;
-    };
-    Some((span_of(columns, 1), number_of(sheet, rest)))
-}
-
-/// A span of rows at a token.
-fn row_span(sheet: &Sheet<'_>, at: usize) -> Option<(Span, usize)>
-    ensures { elim result [
-      | Some x ↦ (row_span (left (view sheet.now) at 0) ≡ Some x.0) × (left (view sheet.now) x.1 0 ≡ drop 3 (left (view sheet.now) at 0))
-      | None ↦ row_span (left (view sheet.now) at 0) ≡ None
-    ] }
-{
-    let Some(rest) = after_row(tokens_from(sheet, at)) else {
-        return None;
-    };
-    let Some(rows) = digits_at(sheet, at + 1) else {
-        return None;
-    };
-    Some((span_of(1, rows), number_of(sheet, rest)))
-}
-
-/// A span of columns and rows at a token.
-fn both_span(sheet: &Sheet<'_>, at: usize) -> Option<(Span, usize)>
-    ensures { elim result [
-      | Some x ↦ (both_span (left (view sheet.now) at 0) ≡ Some x.0) × (left (view sheet.now) x.1 0 ≡ drop 4 (left (view sheet.now) at 0))
-      | None ↦ both_span (left (view sheet.now) at 0) ≡ None
-    ] }
-{
-    let Some(rest) = after_both(tokens_from(sheet, at)) else {
-        return None;
-    };
-    let Some(columns) = digits_at(sheet, at) else {
-        return None;
-    };
-    let Some(rows) = digits_at(sheet, at + 2) else {
-        return None;
-    };
-    Some((span_of(columns, rows), number_of(sheet, rest)))
-}
-
-/// The span at a token, and the number of the token behind it.
-fn read_span(sheet: &Sheet<'_>, at: usize) -> (Option<Span>, usize)
-    ensures { found_at (view sheet.now) result.0 result.1 ≡ span_part (left (view sheet.now) at 0) }
-{
-    if let Some((span, next)) = column_span(sheet, at) {
-        return (Some(span), next);
-    }
-    if let Some((span, next)) = row_span(sheet, at) {
-        return (Some(span), next);
-    }
-    if let Some((span, next)) = both_span(sheet, at) {
-        return (Some(span), next);
-    }
-    (None, at)
-}
-
 /// The bytes `<.>`.
 fn is_left_bottom(bytes: &[u8]) -> bool
     ensures { result ≡ left_bottom bytes.now }
 {
-    bytes.len() == 3 && bytes[0] == b'<' && bytes[1] == b'.' && bytes[2] == b'>'
+    bytes == b"<.>".as_slice()
 }
 
 /// What a token says of alignment.
 fn alignment_of(seen: Seen<'_>) -> Option<Alignment>
-    ensures { result ≡ alignment_of (seen_at (record { token = 0; offset = 0 }) seen.entry) }
+    ensures { result ≡ alignment_of (seen_at seen.entry) }
 {
     if seen.replaced {
         return None;
     }
     match seen.kind {
-        kind::LESS_THAN => Some(Alignment {
+        Kind::LessThan => Some(Alignment {
             horizontal: Horizontal::Left,
             vertical: None,
         }),
-        kind::GREATER_THAN => Some(Alignment {
+        Kind::GreaterThan => Some(Alignment {
             horizontal: Horizontal::Right,
             vertical: None,
         }),
-        kind::CARET => Some(Alignment {
+        Kind::Caret => Some(Alignment {
             horizontal: Horizontal::Center,
             vertical: None,
         }),
-        kind::CALLOUT_NUMBER if is_left_bottom(seen.bytes) => {
+        Kind::CalloutNumber if is_left_bottom(seen.bytes) => {
             Some(Alignment {
                 horizontal: Horizontal::Left,
                 vertical: Some(Vertical::Bottom),
@@ -161,67 +82,138 @@ fn alignment_of(seen: Seen<'_>) -> Option<Alignment>
     }
 }
 
-/// The alignment at a token, and the number of the token behind it.
-fn read_alignment(sheet: &Sheet<'_>, at: usize) -> (Option<Alignment>, usize)
-    ensures { found_at (view sheet.now) result.0 result.1 ≡ alignment_part (left (view sheet.now) at 0) }
-{
-    let Some(seen) = sheet.see(Place {
-        token: at,
-        offset: 0,
-    }) else {
-        return (None, at);
-    };
-    let Some(alignment) = alignment_of(seen) else {
-        return (None, at);
-    };
-    (Some(alignment), at + 1)
-}
-
 /// Dots of length 1.
 fn is_dot(seen: Seen<'_>) -> bool
-    ensures { result ≡ dot (seen_at (record { token = 0; offset = 0 }) seen.entry) }
+    ensures { result ≡ dot (seen_at seen.entry) }
 {
-    !seen.replaced && seen.kind == kind::DOTS && seen.bytes.len() == 1
+    seen.is(Kind::Dots) && seen.bytes.len() == 1
 }
 
 /// What a token says of vertical alignment, behind a dot.
 fn vertical_of(seen: Seen<'_>) -> Option<Vertical>
-    ensures { result ≡ vertical_of (seen_at (record { token = 0; offset = 0 }) seen.entry) }
+    ensures { result ≡ vertical_of (seen_at seen.entry) }
 {
     if seen.replaced {
         return None;
     }
     match seen.kind {
-        kind::LESS_THAN => Some(Vertical::Top),
-        kind::GREATER_THAN => Some(Vertical::Bottom),
-        kind::CARET => Some(Vertical::Middle),
+        Kind::LessThan => Some(Vertical::Top),
+        Kind::GreaterThan => Some(Vertical::Bottom),
+        Kind::Caret => Some(Vertical::Middle),
         _ => None,
     }
 }
 
-/// The vertical alignment at a token, and the number of the token behind it.
-fn read_vertical(sheet: &Sheet<'_>, at: usize) -> (Option<Vertical>, usize)
-    ensures { found_at (view sheet.now) result.0 result.1 ≡ vertical_part (left (view sheet.now) at 0) }
-{
-    let Some(dots) = sheet.see(Place {
-        token: at,
-        offset: 0,
-    }) else {
-        return (None, at);
-    };
-    if !is_dot(dots) {
-        return (None, at);
+impl<'s, 'a> Cursor<'s, 'a> {
+    // The number of a factor or of a span is taken by `let .. else`, and not by `?`, a form that the project asks for: it
+    // shows the part that a number above 255 leaves absent. Each form of a span is taken apart in a function of its own,
+    // as the project asks too.
+
+    /// The factor here, and the number of the token behind it.
+    fn factor(self) -> (Option<u8>, usize)
+        ensures { found_at (view self.entry.sheet.now) result.0 result.1 ≡ factor_part (here self.entry) }
+    {
+        let Some(rest) = after_digits(self.tokens(), Kind::Star) else {
+            return (None, self.at);
+        };
+        let Some(count) = self.digits() else {
+            return (None, self.at);
+        };
+        (Some(count), self.number_of(rest))
     }
-    let Some(sign) = sheet.see(Place {
-        token: at + 1,
-        offset: 0,
-    }) else {
-        return (None, at);
-    };
-    let Some(vertical) = vertical_of(sign) else {
-        return (None, at);
-    };
-    (Some(vertical), at + 2)
+
+    /// A span of columns here.
+    fn column_span(self) -> Option<(Span, usize)>
+        ensures span { column_span (here self.entry) ≡ option_map (λ x. x.0) result }
+        ensures behind { IfSome result (λ x. left (view self.entry.sheet.now) x.1 0 ≡ drop 2 (here self.entry)) }
+    {
+        let rest = after_digits(self.tokens(), Kind::Plus)?;
+        let Some(columns) = self.digits() else {
+            return None;
+        };
+        Some((span_of(columns, 1), self.number_of(rest)))
+    }
+
+    /// A span of rows here.
+    fn row_span(self) -> Option<(Span, usize)>
+        ensures span { row_span (here self.entry) ≡ option_map (λ x. x.0) result }
+        ensures behind { IfSome result (λ x. left (view self.entry.sheet.now) x.1 0 ≡ drop 3 (here self.entry)) }
+    {
+        let rest = after_row(self.tokens())?;
+        let ahead = Cursor {
+            at: self.at + 1,
+            ..self
+        };
+        let Some(rows) = ahead.digits() else {
+            return None;
+        };
+        Some((span_of(1, rows), self.number_of(rest)))
+    }
+
+    /// A span of columns and rows here.
+    fn both_span(self) -> Option<(Span, usize)>
+        ensures span { both_span (here self.entry) ≡ option_map (λ x. x.0) result }
+        ensures behind { IfSome result (λ x. left (view self.entry.sheet.now) x.1 0 ≡ drop 4 (here self.entry)) }
+    {
+        let rest = after_both(self.tokens())?;
+        let Some(columns) = self.digits() else {
+            return None;
+        };
+        let ahead = Cursor {
+            at: self.at + 2,
+            ..self
+        };
+        let Some(rows) = ahead.digits() else {
+            return None;
+        };
+        Some((span_of(columns, rows), self.number_of(rest)))
+    }
+
+    /// The span here, and the number of the token behind it.
+    fn span(self) -> (Option<Span>, usize)
+        ensures { found_at (view self.entry.sheet.now) result.0 result.1 ≡ span_part (here self.entry) }
+    {
+        // Tried as a chain of `or_else`: the proof did not close.
+        if let Some((span, next)) = self.column_span() {
+            return (Some(span), next);
+        }
+        if let Some((span, next)) = self.row_span() {
+            return (Some(span), next);
+        }
+        if let Some((span, next)) = self.both_span() {
+            return (Some(span), next);
+        }
+        (None, self.at)
+    }
+
+    /// The alignment here, and the number of the token behind it.
+    fn alignment(self) -> (Option<Alignment>, usize)
+        ensures { found_at (view self.entry.sheet.now) result.0 result.1 ≡ alignment_part (here self.entry) }
+    {
+        match self.sheet.see(Place::front(self.at)).and_then(alignment_of) {
+            Some(alignment) => (Some(alignment), self.at + 1),
+            None => (None, self.at),
+        }
+    }
+
+    /// The vertical alignment here, and the number of the token behind it.
+    fn vertical(self) -> (Option<Vertical>, usize)
+        ensures { found_at (view self.entry.sheet.now) result.0 result.1 ≡ vertical_part (here self.entry) }
+    {
+        let Some(dots) = self.sheet.see(Place::front(self.at)) else {
+            return (None, self.at);
+        };
+        if !is_dot(dots) {
+            return (None, self.at);
+        }
+        let Some(sign) = self.sheet.see(Place::front(self.at + 1)) else {
+            return (None, self.at);
+        };
+        let Some(vertical) = vertical_of(sign) else {
+            return (None, self.at);
+        };
+        (Some(vertical), self.at + 2)
+    }
 }
 
 /// The parts at a place, and the place behind them. What is left of a token behind dropped bytes is a Word, which
@@ -230,20 +222,13 @@ pub fn read_parts(sheet: &Sheet<'_>, place: Place) -> (Parts, Place)
     ensures { said_at (view sheet.now) result.0 result.1 ≡ parts_of (left_at (view sheet.now) place) }
 {
     if place.offset > 0 {
-        return (
-            Parts {
-                factor: None,
-                span: None,
-                alignment: None,
-                vertical: None,
-            },
-            place,
-        );
+        return (Parts::default(), place);
     }
-    let (factor, at) = read_factor(sheet, place.token);
-    let (span, at) = read_span(sheet, at);
-    let (alignment, at) = read_alignment(sheet, at);
-    let (vertical, at) = read_vertical(sheet, at);
+    let at = place.token;
+    let (factor, at) = Cursor { sheet, at }.factor();
+    let (span, at) = Cursor { sheet, at }.span();
+    let (alignment, at) = Cursor { sheet, at }.alignment();
+    let (vertical, at) = Cursor { sheet, at }.vertical();
     (
         Parts {
             factor,
@@ -251,9 +236,6 @@ pub fn read_parts(sheet: &Sheet<'_>, place: Place) -> (Parts, Place)
             alignment,
             vertical,
         },
-        Place {
-            token: at,
-            offset: 0,
-        },
+        Place::front(at),
     )
 }

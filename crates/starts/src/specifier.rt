@@ -1,8 +1,9 @@
 // What a cell specifier says, and where a cell starts.
-use sheet::records::Place;
+use sheet::Place;
+use styles::Style;
 
 /// Where a cell's content stands from side to side.
-#[derive(Clone, Copy)]
+#[derive(Clone, Copy, Debug, PartialEq, Eq, Hash)]
 pub enum Horizontal {
     Left,
     Right,
@@ -10,33 +11,16 @@ pub enum Horizontal {
 }
 
 /// Where a cell's content stands from top to bottom.
-#[derive(Clone, Copy)]
+#[derive(Clone, Copy, Debug, PartialEq, Eq, Hash)]
 pub enum Vertical {
     Top,
     Bottom,
     Middle,
 }
 
-/// The styles that a specifier can name, by their numbers.
-pub mod style {
-    pub const DEFAULT: u8 = 0;
-
-    pub const EMPHASIS: u8 = 1;
-
-    pub const HEADER: u8 = 2;
-
-    pub const MONOSPACE: u8 = 3;
-
-    pub const STRONG: u8 = 4;
-
-    pub const LITERAL: u8 = 5;
-
-    pub const ASCIIDOC: u8 = 6;
-}
-
 /// What is written before a separator: how often the cell stands, how many columns and rows it spans, each 1 where
 /// nothing is written, and the alignments and the style that are named.
-#[derive(Clone, Copy)]
+#[derive(Clone, Copy, Debug, PartialEq, Eq, Hash)]
 pub struct Specifier {
     /// 0 to 255
     pub factor: u8,
@@ -46,8 +30,7 @@ pub struct Specifier {
     pub rows: u8,
     pub horizontal: Option<Horizontal>,
     pub vertical: Option<Vertical>,
-    /// one of the numbers in `style`
-    pub style: Option<u8>,
+    pub style: Option<Style>,
 }
 
 impl Specifier {
@@ -63,7 +46,7 @@ impl Specifier {
 }
 
 /// The start of a cell: its specifier, and the place behind its separator.
-#[derive(Clone, Copy)]
+#[derive(Clone, Copy, Debug, PartialEq, Eq, Hash)]
 pub struct Start {
     pub specifier: Specifier,
     pub rest: Place,

@@ -1,63 +1,44 @@
 // Where a cell starts.
-ghost use Rattle.std.specs.Prelude.{◌≡◌, [], ◌∷◌, Some, None};
+ghost use Rattle.std.specs.Prelude.{◌≡◌, [], ◌∷◌};
+ghost use Rattle.sheet.specs.Kinds.{number_of};
 ghost use Rattle.sheet.specs.Left.{left_at};
 ghost use Rattle.sheet.specs.View.{view};
 ghost use Rattle.starts.specs.Fronts.{begins, in_front, has_byte, single, just};
-ghost use Rattle.starts.specs.Parts.{said_at, written};
-ghost use Rattle.starts.specs.Start.{style_of, style_in, horizontal_of, vertical_over, specified, plain_start, short_start, long_start, start_behind, start_of, may_start, StartIs};
+ghost use Rattle.starts.specs.Parts.{written};
+ghost use Rattle.starts.specs.Reads.{said_by};
+ghost use Rattle.starts.specs.Start.{style_in, horizontal_of, vertical_over, specified, plain_start, short_start, long_start, start_behind, start_of, may_start, StartIs};
 
 use crate::parts::{Parts, Span, read_parts};
-use crate::specifier::{Horizontal, Specifier, Start, Vertical, style};
-use sheet::records::Place;
-use sheet::{Sheet, kind};
+use crate::specifier::{Horizontal, Specifier, Start, Vertical};
+use sheet::{Kind, Place, Sheet};
+use styles::Style;
 
-/// The style that a letter names.
-fn style_of(letter: char) -> Option<u8>
-    ensures { result ≡ style_of letter }
-{
-    match letter {
-        'd' => Some(style::DEFAULT),
-        'e' => Some(style::EMPHASIS),
-        'h' => Some(style::HEADER),
-        'm' => Some(style::MONOSPACE),
-        's' => Some(style::STRONG),
-        'l' => Some(style::LITERAL),
-        'a' => Some(style::ASCIIDOC),
-        _ => None,
-    }
-}
+// A sheet and a place go side by side, and not as a cursor: the place is another one at nearly every call, and a struct of
+// the two would be made for each.
 
 /// The style that the token at a place names: a Word, by its first letter.
-fn style_at(sheet: &Sheet<'_>, place: Place) -> Option<u8>
+fn style_at(sheet: &Sheet<'_>, place: Place) -> Option<Style>
     ensures { result ≡ in_front style_in (left_at (view sheet.now) place) }
 {
-    let Some(seen) = sheet.see(place) else {
-        return None;
-    };
-    if seen.replaced || seen.kind != kind::WORD {
+    let seen = sheet.see(place)?;
+    if !seen.is(Kind::Word) {
         return None;
     }
-    style_of(char::from(seen.bytes[0]))
+    Style::named(char::from(seen.bytes[0]))
 }
 
 /// Whether the token at a place has a byte at an offset into it.
 fn has_byte(sheet: &Sheet<'_>, place: Place, byte: u8, offset: usize) -> bool
     ensures { result ≡ begins (has_byte byte offset ∷ []) (left_at (view sheet.now) place) }
 {
-    let Some(seen) = sheet.see(place) else {
-        return false;
-    };
-    !seen.replaced && offset < seen.bytes.len() && seen.bytes[offset] == byte
+    sheet.see(place).is_some_and(|seen| !seen.replaced && seen.bytes.get(offset) == Some(&byte))
 }
 
 /// Whether the token at a place has one byte.
 fn is_single(sheet: &Sheet<'_>, place: Place) -> bool
     ensures { result ≡ begins (single ∷ []) (left_at (view sheet.now) place) }
 {
-    let Some(seen) = sheet.see(place) else {
-        return false;
-    };
-    seen.bytes.len() == 1
+    sheet.see(place).is_some_and(|seen| seen.bytes.len() == 1)
 }
 
 /// Whether the token at a place is just a byte.
@@ -67,135 +48,124 @@ fn is_just(sheet: &Sheet<'_>, place: Place, byte: u8) -> bool
     is_single(sheet, place) && has_byte(sheet, place, byte, 0)
 }
 
-/// Whether a part is there.
-fn is_written(parts: Parts) -> bool
-    ensures { result ≡ written parts }
-{
-    parts.factor.is_some()
-        || parts.span.is_some()
-        || parts.alignment.is_some()
-        || parts.vertical.is_some()
-}
+impl Parts {
+    /// Whether a part is there.
+    fn is_written(&self) -> bool
+        ensures { result ≡ written self.now }
+    {
+        self.factor.is_some()
+            || self.span.is_some()
+            || self.alignment.is_some()
+            || self.vertical.is_some()
+    }
 
-/// The vertical alignment that the parts name: a sign behind a dot goes over `<.>`.
-fn vertical_of(parts: Parts) -> Option<Vertical>
-    ensures { result ≡ vertical_over parts.vertical parts.alignment }
-{
-    match parts.vertical {
-        Some(vertical) => Some(vertical),
-        None => match parts.alignment {
-            Some(alignment) => alignment.vertical,
-            None => None,
-        },
+    /// The vertical alignment that the parts name: a sign behind a dot goes over `<.>`.
+    fn vertical(&self) -> Option<Vertical>
+        ensures { result ≡ vertical_over self.now.vertical self.now.alignment }
+    {
+        self.vertical.or(self.alignment.and_then(|a| a.vertical))
+    }
+
+    /// The horizontal alignment that the parts name.
+    fn horizontal(&self) -> Option<Horizontal>
+        ensures { result ≡ horizontal_of self.now.alignment }
+    {
+        self.alignment.map(|a| a.horizontal)
+    }
+
+    /// The specifier that the parts and a style make.
+    fn specifier(&self, style: Option<Style>) -> Specifier
+        ensures { result ≡ specified self.now style }
+    {
+        let span = self.span.unwrap_or(Span {
+            columns: 1,
+            rows: 1,
+        });
+        Specifier {
+            factor: self.factor.unwrap_or(1),
+            columns: span.columns,
+            rows: span.rows,
+            horizontal: self.horizontal(),
+            vertical: self.vertical(),
+            style,
+        }
     }
 }
 
-/// The horizontal alignment that the parts name.
-fn horizontal_of(parts: Parts) -> Option<Horizontal>
-    ensures { result ≡ horizontal_of parts.alignment }
-{
-    match parts.alignment {
-        Some(alignment) => Some(alignment.horizontal),
-        None => None,
-    }
-}
-
-/// The specifier that the parts and a style make.
-fn specifier_of(parts: Parts, style: Option<u8>) -> Specifier
-    ensures { result ≡ specified parts style }
-{
-    let span = parts.span.unwrap_or(Span {
-        columns: 1,
-        rows: 1,
-    });
-    Specifier {
-        factor: parts.factor.unwrap_or(1),
-        columns: span.columns,
-        rows: span.rows,
-        horizontal: horizontal_of(parts),
-        vertical: vertical_of(parts),
-        style,
-    }
-}
-
-/// A start behind the parts with no style.
-fn plain_start(sheet: &Sheet<'_>, separator: u8, parts: Parts, rest: Place) -> Option<Start>
-    ensures { StartIs (view sheet.now) result (plain_start separator (said_at (view sheet.now) parts rest)) }
-{
-    if !is_written(parts) || !is_just(sheet, rest, separator) {
-        return None;
-    }
-    Some(Start {
-        specifier: specifier_of(parts, None),
-        rest: sheet.behind_token(rest),
-    })
-}
-
-/// A start behind the parts with a style Word of one letter.
-fn short_start(
-    sheet: &Sheet<'_>,
+/// What stands before a separator: the parts, and the place behind them.
+#[derive(Clone, Copy)]
+struct Front<'s, 'a> {
+    sheet: &'s Sheet<'a>,
     separator: u8,
     parts: Parts,
     rest: Place,
-    style: u8,
-) -> Option<Start>
-    ensures { StartIs (view sheet.now) result (short_start separator (said_at (view sheet.now) parts rest) style) }
-{
-    let next = sheet.behind_token(rest);
-    if !is_just(sheet, next, separator) {
-        return None;
-    }
-    Some(Start {
-        specifier: specifier_of(parts, Some(style)),
-        rest: sheet.behind_token(next),
-    })
 }
 
-/// A start behind the parts with a longer style Word, whose second byte is the separator.
-fn long_start(
-    sheet: &Sheet<'_>,
-    separator: u8,
-    parts: Parts,
-    rest: Place,
-    style: u8,
-) -> Option<Start>
-    ensures { StartIs (view sheet.now) result (long_start separator (said_at (view sheet.now) parts rest) style) }
-{
-    if !is_written(parts) || !has_byte(sheet, rest, separator, 1) {
-        return None;
+impl<'s, 'a> Front<'s, 'a> {
+    /// A start with no style.
+    fn plain(&self) -> Option<Start>
+        ensures { StartIs (view self.now.sheet.now) result (plain_start self.now.separator (said_by self.now)) }
+    {
+        if !self.parts.is_written() || !is_just(self.sheet, self.rest, self.separator) {
+            return None;
+        }
+        Some(Start {
+            specifier: self.parts.specifier(None),
+            rest: self.sheet.behind_token(self.rest),
+        })
     }
-    Some(Start {
-        specifier: specifier_of(parts, Some(style)),
-        rest: sheet.behind_bytes(rest, 2),
-    })
-}
 
-/// A start behind the parts.
-fn start_behind(sheet: &Sheet<'_>, separator: u8, parts: Parts, rest: Place) -> Option<Start>
-    ensures { StartIs (view sheet.now) result (start_behind separator (said_at (view sheet.now) parts rest)) }
-{
-    let Some(style) = style_at(sheet, rest) else {
-        return plain_start(sheet, separator, parts, rest);
-    };
-    if is_single(sheet, rest) {
-        short_start(sheet, separator, parts, rest, style)
-    } else {
-        long_start(sheet, separator, parts, rest, style)
+    /// A start with a style Word of one letter.
+    fn short(&self, style: Style) -> Option<Start>
+        ensures { StartIs (view self.now.sheet.now) result (short_start self.now.separator (said_by self.now) style) }
+    {
+        let next = self.sheet.behind_token(self.rest);
+        if !is_just(self.sheet, next, self.separator) {
+            return None;
+        }
+        Some(Start {
+            specifier: self.parts.specifier(Some(style)),
+            rest: self.sheet.behind_token(next),
+        })
+    }
+
+    /// A start with a longer style Word, whose second byte is the separator.
+    fn long(&self, style: Style) -> Option<Start>
+        ensures { StartIs (view self.now.sheet.now) result (long_start self.now.separator (said_by self.now) style) }
+    {
+        if !self.parts.is_written() || !has_byte(self.sheet, self.rest, self.separator, 1) {
+            return None;
+        }
+        Some(Start {
+            specifier: self.parts.specifier(Some(style)),
+            rest: self.sheet.behind_bytes(self.rest, 2),
+        })
+    }
+
+    /// A start behind the parts.
+    fn start(&self) -> Option<Start>
+        ensures { StartIs (view self.now.sheet.now) result (start_behind self.now.separator (said_by self.now)) }
+    {
+        match style_at(self.sheet, self.rest) {
+            None => self.plain(),
+            Some(style) if is_single(self.sheet, self.rest) => self.short(style),
+            Some(style) => self.long(style),
+        }
     }
 }
 
 /// Whether a specifier can begin with an unreplaced token of a kind and a first byte.
-fn may_start(kind: u8, first: u8) -> bool
-    ensures { result ≡ may_start kind first }
+fn may_start(kind: Kind, first: u8) -> bool
+    ensures { result ≡ may_start (number_of kind) first }
 {
     match kind {
-        kind::DIGITS
-        | kind::DOTS
-        | kind::LESS_THAN
-        | kind::GREATER_THAN
-        | kind::CARET
-        | kind::CALLOUT_NUMBER => true,
-        kind::WORD => style_of(char::from(first)).is_some(),
+        Kind::Digits
+        | Kind::Dots
+        | Kind::LessThan
+        | Kind::GreaterThan
+        | Kind::Caret
+        | Kind::CalloutNumber => true,
+        Kind::Word => Style::named(char::from(first)).is_some(),
         _ => false,
     }
 }
@@ -205,9 +175,7 @@ fn may_start(kind: u8, first: u8) -> bool
 pub fn read_start(sheet: &Sheet<'_>, separator: u8, place: Place) -> Option<Start>
     ensures { StartIs (view sheet.now) result (start_of separator (left_at (view sheet.now) place)) }
 {
-    let Some(seen) = sheet.see(place) else {
-        return None;
-    };
+    let seen = sheet.see(place)?;
     if seen.replaced {
         return None;
     }
@@ -222,5 +190,11 @@ pub fn read_start(sheet: &Sheet<'_>, separator: u8, place: Place) -> Option<Star
         return None;
     }
     let (parts, rest) = read_parts(sheet, place);
-    start_behind(sheet, separator, parts, rest)
+    let front = Front {
+        sheet,
+        separator,
+        parts,
+        rest,
+    };
+    front.start()
 }

@@ -1,16 +1,11 @@
 // Starts at the front of a text, and starts that are none.
 use lexer::lex;
-use sheet::records::Place;
-use sheet::{Sheet, Token, kind};
+use sheet::{Kind, Place, Sheet, Token};
 use starts::{Horizontal, Start, Vertical, read_start};
 use std::alloc::Global;
 use std::process::Abort;
 use std::test::Fail;
-
-const FRONT: Place = Place {
-    token: 0,
-    offset: 0,
-};
+use styles::Style;
 
 /// A specifier as six bytes, where `-` stands for what is missing: factor, columns, rows, `<` `>` or `^` for the
 /// horizontal and for the vertical alignment, style.
@@ -27,7 +22,7 @@ fn said(start: Start) -> [u8; 6] {
         Some(Vertical::Middle) => b'^',
         None => b'-',
     };
-    let style = start.specifier.style.unwrap_or(b'-');
+    let style = start.specifier.style.map_or(b'-', Style::number);
     [
         start.specifier.factor,
         start.specifier.columns,
@@ -38,6 +33,16 @@ fn said(start: Start) -> [u8; 6] {
     ]
 }
 
+/// A token of one byte.
+fn one_byte(kind: Kind, replaced: bool, start: u32) -> Token {
+    Token {
+        kind: kind.number(),
+        replaced,
+        start,
+        length: 1,
+    }
+}
+
 /// The start at the front of a sheet.
 fn front<'a>(
     page: &'a [u8],
@@ -45,19 +50,14 @@ fn front<'a>(
     tokens: &'a [Token],
     separator: u8,
 ) -> Result<Option<Start>, Fail> {
-    let mut sheet = Sheet::empty();
-    let Ok(_) = sheet.load(page, replacement, tokens) else {
-        return Err(Fail::new("no sheet"));
-    };
-    Ok(read_start(&sheet, separator, FRONT))
+    let sheet = Sheet::new(page, replacement, tokens)?;
+    Ok(read_start(&sheet, separator, Place::front(0)))
 }
 
 /// The start at the front of a text.
 fn front_of(heap: Global, text: &[u8], separator: u8) -> Result<Option<Start>, Fail> {
-    let Ok(tokens) = lex(heap, text) else {
-        return Err(Fail::new("no tokens"));
-    };
-    front(text, b"", tokens.as_slice(), separator)
+    let tokens = lex(heap, text)?;
+    front(text, b"", &tokens, separator)
 }
 
 /// The start at the front of a text has this specifier, and the cell goes on at this token and offset.
@@ -70,12 +70,9 @@ fn expect(
     token: usize,
     offset: usize,
 ) -> Result<(), Fail> {
-    let Some(start) = front_of(heap, text, separator)? else {
-        return Err(Fail::new("no start"));
-    };
-    let got = said(start);
-    assert_eq!(rt; &got[..], &specifier[..]);
-    assert!(rt; start.rest.token == token && start.rest.offset == offset);
+    let start = front_of(heap, text, separator)?.ok_or_else(|| Fail::new("no start"))?;
+    assert_eq!(rt; said(start), specifier);
+    assert_eq!(rt; start.rest, Place { token, offset });
     Ok(())
 }
 
@@ -141,36 +138,11 @@ fn no_start(rt: HostRuntime) -> Result<(), Fail> {
 
 #[test]
 fn replaced(rt: HostRuntime) -> Result<(), Fail> {
-    let digits = Token {
-        kind: kind::DIGITS,
-        replaced: false,
-        start: 0,
-        length: 1,
-    };
-    let star = Token {
-        kind: kind::STAR,
-        replaced: false,
-        start: 1,
-        length: 1,
-    };
-    let pipe = Token {
-        kind: kind::PIPE,
-        replaced: false,
-        start: 2,
-        length: 1,
-    };
-    let other_star = Token {
-        kind: kind::STAR,
-        replaced: true,
-        start: 1,
-        length: 1,
-    };
-    let other_pipe = Token {
-        kind: kind::PIPE,
-        replaced: true,
-        start: 2,
-        length: 1,
-    };
+    let digits = one_byte(Kind::Digits, false, 0);
+    let star = one_byte(Kind::Star, false, 1);
+    let pipe = one_byte(Kind::Pipe, false, 2);
+    let other_star = one_byte(Kind::Star, true, 1);
+    let other_pipe = one_byte(Kind::Pipe, true, 2);
     assert!(rt; front(b"4*|", b"4*|", &[digits, star, pipe], b'|')?.is_some());
     assert!(rt; front(b"4*|", b"4*|", &[digits, star, other_pipe], b'|')?.is_none());
     assert!(rt; front(b"4*|", b"4*|", &[digits, other_star, pipe], b'|')?.is_none());

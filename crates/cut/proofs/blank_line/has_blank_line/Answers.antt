@@ -1,7 +1,7 @@
-use Rattle.std.proofs.Common.{ℕ, get_or, drop, sym, ap, ◌∙◌, add-zero, arith, length-drop}
-use Rattle.sheet.specs.View.{view, is_newline_piece}
+use Rattle.std.proofs.Common.{drop, sym, ◌∙◌, arith, length-drop}
+use Rattle.sheet.specs.View.{view}
 use Rattle.sheet.specs.declared.records.Piece.{Piece}
-use Rattle.cut.proofs.BlankLines.{few_pieces, pair_found, pair_at}
+use Rattle.cut.proofs.BlankLines.{few_pieces, pair_at}
 use Rattle.cut.proofs.blank_line.has_blank_line.Goals as goal
 
 abbrev no_piece : Piece
@@ -13,14 +13,6 @@ returns-then-pieces-lt2 c = sym (few_pieces (view c.args.sheet.now) c.args.piece
 pub pairs-preserved : goal.pairs-preserved
 pairs-preserved c =
     sym (pair_at (view c.args.sheet.now) c.args.pieces.now c.pairs.i no_piece (omega arith) c.loop-k.k c.loop-k-test.true (sym c.if-not-is_newline.ensures)) ∙ c.pairs.invariant
-
-pub returns-in-pairs : goal.returns-in-pairs
-returns-in-pairs c =
-    let v = view c.args.sheet.now in
-    let ps = c.args.pieces.now in
-    let two = c.loop-k.invariant in
-    let zeroth = sym (ap (λ (j : ℕ). is_newline_piece v (get_or ps j no_piece)) (add-zero c.pairs.i)) ∙ two 0 (omega arith) in
-    sym (pair_found v ps c.pairs.i no_piece (omega arith) zeroth (two 1 (omega arith))) ∙ c.pairs.invariant
 
 pub returns : goal.returns
 returns c =

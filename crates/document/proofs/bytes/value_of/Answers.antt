@@ -1,20 +1,15 @@
-use Rattle.std.proofs.Common.{◌≡◌, ℕ, ◌+◌, ◌-◌, ◌*◌, ◌^◌, min, get_or, take, ap, ◌∙◌, arith}
-use Rattle.std.proofs.lemmas.List.{take_all}
-use Rattle.std.proofs.lemmas.List.Sums.{fold_more}
-use Rattle.document.specs.Bytes.{decimal, value_of}
+use Rattle.std.proofs.Common.{◌≡◌, ℕ, ◌+◌, ◌-◌, ◌*◌, List, [], ◌∷◌, ◌++◌, refl, arith, rules}
+use Rattle.std.proofs.lemmas.Iterator.{YieldsList-from_slice}
+use Rattle.std.proofs.lemmas.List.Sums.{fold-append}
+use Rattle.document.specs.Bytes.{with_digit, value_of}
+use Rattle.document.proofs.Chains.{fold_keeps}
 use Rattle.document.proofs.bytes.value_of.Goals as goal
 
--- a number that is held at the largest stays right under one more digit
-held : (v d m : ℕ) → min (min (min v m * 10) m + d) m ≡ min (v * 10 + d) m
-held v d m = omega arith
-
-pub loop-digit-preserved : goal.loop-digit-preserved
-loop-digit-preserved c =
-    let e = fold_more (λ v d. v * 10 + (d - 48)) 0 c.args.digits.now c.loop-digit.digit-index 0 c.loop-digit-test.true in
-    let h = held (decimal (take c.loop-digit.digit-index c.args.digits.now)) (get_or c.args.digits.now c.loop-digit.digit-index 0 - 48) (2 ^ 64 - 1) in
-    let i = c.loop-digit.invariant in
-    omega arith
+-- one more digit behind the others
+more : (ds : List ℕ) (d n m : ℕ) → n ≡ value_of ds → m ≡ with_digit n d → m ≡ value_of (ds ++ d ∷ [])
+more ds d n m h e = let f = fold-append (λ v d. v * 10 + (d - 48)) 0 ds (d ∷ []) in omega arith
 
 pub returns : goal.returns
 returns c =
-    c.loop-digit.invariant ∙ ap value_of (take_all c.loop-digit.digit-index c.args.digits.now c.loop-digit-test.false)
+    fold_keeps (λ ds n. n ≡ value_of ds) c.fold.ensures.ran (YieldsList-from_slice c.args.digits.now cc) refl
+    (λ ds n d m f h k. (more ds d.now n m h (search rules), search rules))

@@ -5,4 +5,7 @@ use Rattle.starts.proofs.forms.after_digits.Goals as goal
 
 pub returns-in-len2-up : goal.returns-in-len2-up
 returns-in-len2-up c =
-    (begins_two _ _ c.args.tokens.now _ (search rules) (sym c.if-is_plain.ensures) (sym c.if-is_plain-2.ensures), take_rest c.args.tokens.now 2)
+    record {
+      form = begins_two _ _ c.args.tokens.now _ (search rules) (sym c.if-is_plain.ensures) (sym c.if-is_plain-2.ensures);
+      rest = take_rest c.args.tokens.now 2;
+    }

@@ -1,25 +1,25 @@
-use Rattle.std.proofs.Common.{◌≡◌, ℕ, ◌<◌, Bool, false, List, ◌∷◌, length, sym, ap, ◌∙◌, arith}
+use Rattle.std.proofs.Common.{◌≡◌, [], ◌∷◌, fold, inl, sym, refl, ap, ◌∙◌, arith, rules}
+use Rattle.std.proofs.lemmas.Iterator.Consumers.{YieldsList-at, YieldsList-from_first, YieldsList-from_enumerate}
+use Rattle.std.proofs.lemmas.List.Sums.{fold-append}
 use Rattle.document.specs.Bytes.{trim}
-use Rattle.document.specs.Attributes.{Said, said, items, with_item, with_items}
+use Rattle.document.specs.Attributes.{Said, said, items, items_left, with_item, with_items}
 use Rattle.document.specs.declared.attributes.Spot.TheVariants.{Front}
-use Rattle.document.proofs.Cuts.{items_parts, items_none, items_some}
+use Rattle.document.proofs.Chains.{fold_keeps, numbered, fold-enumerated}
+use Rattle.document.proofs.Cuts.{length-items}
 use Rattle.document.proofs.attributes.Attributes.with_list.Goals as goal
 
--- a list of items, by its first and those behind it
-step : (first : Bool) (s s' : Said) (xs front trimmed : List ℕ) (ps : List (List ℕ)) → items Front xs ≡ front ∷ ps → trimmed ≡ trim front
-    → s' ≡ with_item s trimmed first → with_items false s' ps ≡ with_items first s (items Front xs)
-step first s s' xs front trimmed ps e t w =
-    ap (λ (p : Said). with_items false p ps) (w ∙ ap (λ (l : List ℕ). with_item s l first) t) ∙ sym (ap (with_items first s) e)
+pub fold-requires-clause-can : goal.fold-requires-clause-can
+fold-requires-clause-can c =
+    let n = c.enumerate.ensures in
+    (tt, tt, inl (omega (arith, n.count, n.remaining, length-items Front c.args.list.now)))
 
-pub returns-then-more-eq0 : goal.returns-then-more-eq0
-returns-then-more-eq0 c =
-    let e = items_parts c.loop-more.rest.now c.split_at.result.0.now c.split_at.result.1.now _ c.item_size.ensures.value c.split_at.ensures.front c.split_at.ensures.back in
-    let f = e ∙ ap (λ (l : List (List ℕ)). c.split_at.result.0.now ∷ l) (items_none _ c.if-more-eq0.true) in
-    step c.loop-more.first (said c.loop-more.attributes) _ c.loop-more.rest.now _ _ _ f c.trim.ensures c.with_item-attributes.ensures ∙ c.loop-more.invariant
-
-pub loop-more-preserved : goal.loop-more-preserved
-loop-more-preserved c =
-    let some : 0 < length c.split_at.result.1.now = omega arith in
-    let e = items_parts c.loop-more.rest.now c.split_at.result.0.now c.split_at.result.1.now _ c.item_size.ensures.value c.split_at.ensures.front c.split_at.ensures.back in
-    let f = e ∙ ap (λ (l : List (List ℕ)). c.split_at.result.0.now ∷ l) (items_some _ some ∙ ap (items Front) (sym c.split_at-in-loop-more.ensures.back)) in
-    step c.loop-more.first (said c.loop-more.attributes) _ c.loop-more.rest.now _ _ _ f c.trim.ensures c.with_item-attributes.ensures ∙ c.loop-more.invariant
+pub returns : goal.returns
+returns c =
+    let n = c.enumerate.ensures in
+    let one = numbered (λ s l first. with_item s (trim l) first) with_items (λ b s. refl) (λ b s l ls. refl) in
+    fold_keeps (λ ps a. said a ≡ fold one (said c.args.self) ps) c.fold.ensures.ran
+    (YieldsList-from_enumerate (YieldsList-at n.source (YieldsList-from_first (λ x. x.now) items_left (items Front c.args.list.now) refl)) n.count) refl
+    (λ ps a x b f h k.
+    let e : said b ≡ one (said a) (x.0, x.1.now) = search rules in
+    (e ∙ ap (λ (s : Said). one s (x.0, x.1.now)) h ∙ sym (fold-append one (said c.args.self) ps ((x.0, x.1.now) ∷ [])), search rules))
+    ∙ fold-enumerated (λ s l first. with_item s (trim l) first) with_items (λ b s. refl) (λ b s l ls. refl) (said c.args.self) (items Front c.args.list.now)

@@ -1,26 +1,17 @@
-use Rattle.std.proofs.Common.{◌≡◌, ℕ, List, drop, fold, sym, ap, ◌∙◌, arith}
-use Rattle.document.specs.Pieces.{pieces, behind}
+use Rattle.std.proofs.Common.{◌==◌, ℕ, List, drop, fold, ap, ◌∙◌, rules}
+use Rattle.std.proofs.lemmas.Iterator.Consumers.{YieldsList-at, fold_from_yields_List}
+use Rattle.std.proofs.lemmas.Iterator.Adapters.{YieldsList-from_skip}
+use Rattle.std.proofs.lemmas.Iterator.Splits.{YieldsList-from_slice_split}
 use Rattle.document.specs.Attributes.{with_option, option_in}
-use Rattle.document.specs.declared.attributes.Options as options
-use Rattle.document.proofs.Cuts.{pieces_parts, behind_none, behind_some}
+use Rattle.document.proofs.Cuts.{pieces_cut}
 use Rattle.document.proofs.attributes.Options.with_shorthand.Goals as goal
 
-abbrev all : options.Options → List (List ℕ) → options.Options
-all o ps = fold (λ p part. with_option p (option_in part)) o ps
-
-pub loop-rest-init : goal.loop-rest-init
-loop-rest-init c =
-    ap (λ (l : List ℕ). all c.args.self (behind 37 l))
-    (c.split_at.ensures.back ∙ ap (λ (n : ℕ). drop n c.args.item.now) c.find.ensures.value)
-
-pub loop-rest-preserved : goal.loop-rest-preserved
-loop-rest-preserved c =
-    let part = c.split_at-in-loop-rest-2.result.0.now in
-    let more = c.split_at-in-loop-rest-2.result.1.now in
-    let e = behind_some 37 c.loop-rest.rest.now c.loop-rest-test.true ∙ ap (pieces 37) (sym c.split_at-in-loop-rest.ensures.back) in
-    let f = pieces_parts 37 c.split_at-in-loop-rest.result.1.now part more _ c.find-in-loop-rest.ensures.value c.split_at-in-loop-rest-2.ensures.front c.split_at-in-loop-rest-2.ensures.back in
-    let g : c.with-options.result ≡ with_option c.loop-rest.options (option_in part) = c.with-options.ensures ∙ ap (with_option c.loop-rest.options) c.option_in.ensures in
-    ap (λ (o : options.Options). all o (behind 37 more)) g ∙ sym (ap (all c.loop-rest.options) (e ∙ f)) ∙ c.loop-rest.invariant
-
 pub returns : goal.returns
-returns c = sym (ap (all c.loop-rest.options) (behind_none 37 c.loop-rest.rest.now (omega arith))) ∙ c.loop-rest.invariant
+returns c =
+    fold_from_yields_List _ (λ p part. with_option p (option_in part)) c.args.self c.fold.result c.fold.ensures.ran
+    (YieldsList-from_skip 1
+    (YieldsList-at c.skip.ensures.source
+    (YieldsList-from_slice_split _ (λ x. x == 37) c.args.item.now c.split.ensures.rest c.split.ensures.done c.split.ensures.closure (λ x b q k. search rules)))
+    c.skip.ensures.count)
+    (λ a x b q k. search rules)
+    ∙ ap (λ (ps : List (List ℕ)). fold (λ p part. with_option p (option_in part)) c.args.self (drop 1 ps)) (pieces_cut 37 c.args.item.now)

@@ -1,4 +1,4 @@
-use Rattle.std.proofs.Common.{◌≡◌, ℕ, ◌+◌, ◌-◌, Bool, List, ◌∷◌, length, take, drop, ap, ◌∙◌, arith, length-drop, length-take}
+use Rattle.std.proofs.Common.{◌≡◌, ℕ, ◌+◌, ◌-◌, Bool, List, ◌∷◌, take, drop, ap, ◌∙◌, arith}
 use Rattle.sheet.specs.Left.{Left, left}
 use Rattle.sheet.specs.View.{view}
 use Rattle.sheet.proofs.Lefts.{left_more}
@@ -8,17 +8,14 @@ same_seen : (i o k k' : ℕ) (b : Bool) (n n' s : ℕ) (x y : List ℕ) → k �
     → ◌≡◌ {A = Left} (record { number = i; offset = o; kind = k'; replaced = b; bytes = take n' (drop s y) }) (record { number = i; offset = o; kind = k; replaced = b; bytes = take n (drop s x) })
 same_seen i o k k' b n n' s x y p q r = cc
 
-pub returns : goal.returns
-returns c =
+pub returns-clause-seen : goal.returns-clause-seen
+returns-clause-seen c =
     let s = c.args.self.now in
     let o = c.args.place.offset in
-    let told = c.in-Some.ensures in
-    let token = c.in-Some.token in
+    let told = c.in_ok-token.ensures in
+    let token = c.in_ok-token.token in
     let x = c.text_of-text.ensures in
-    let e = left_more (view s) c.args.place.token o token s.sound told.0 c.if-place-length.false in
+    let e = left_more (view s) c.args.place.token o token s.sound told.found c.if-place-length.false in
     let m : (token.start + token.length) - (token.start + o) ≡ token.length - o = omega arith in
-    let lx = ap length x in
-    let l = length-take ((token.start + token.length) - (token.start + o)) (drop (token.start + o) c.text_of-text.result.now) in
-    let d = length-drop (token.start + o) c.text_of-text.result.now in
-    let lt = c.if-place-length.false in
-    (e ∙ ap (λ (y : Left). y ∷ left (view s) (c.args.place.token + 1) 0) (same_seen _ _ _ _ _ _ _ _ _ _ c.kind_from-kind.ensures m x), told.1, omega arith, omega arith)
+    let k = c.kind_of-kind.ensures ∙ c.kind_from.ensures in
+    e ∙ ap (λ (y : Left). y ∷ left (view s) (c.args.place.token + 1) 0) (same_seen _ _ _ _ _ _ _ _ _ _ k m x)

@@ -1,0 +1,6 @@
+use Rattle.std.proofs.Common.{rules}
+use Rattle.std.proofs.lemmas.List.{take_rest, drop_all}
+use Rattle.starts.proofs.cursor.Cursor.tokens.Goals as goal
+
+pub returns : goal.returns
+returns c = search (rules, take_rest, drop_all)
