@@ -65,6 +65,7 @@ fn main(rt: HostRuntime) -> anyhow::Result<()> {
     let text = page::text(rt.alloc(), format, cells)?;
     let tokens = lexer::lex(rt.alloc(), text.as_slice())?;
     let sheet = Sheet::new(text.as_slice(), &[], tokens.as_slice())?;
+    // An arm for each format: each has a cutter of a type of its own.
     match format {
         Format::Prefix => cut_all(&rt, &sheet, &Prefix::new(b'|')?, rounds)?,
         Format::Csv => cut_all(&rt, &sheet, &Csv::new(b',')?, rounds)?,

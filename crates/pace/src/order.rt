@@ -5,6 +5,7 @@ use std::rt::Env;
 use std::str::FromStr;
 
 /// How the cells of the page are written.
+// Not the format of `document` or of `replay`: a `FromStr` has to stand beside its type, and no program rests on another.
 #[derive(Clone, Copy, Debug, PartialEq, Eq)]
 pub enum Format {
     Prefix,
@@ -37,6 +38,7 @@ impl Order {
     /// The order that the words of the command line make.
     pub fn read<R: Env + AllocGlobal>(rt: &R) -> Result<Order> {
         let words: Vec<String> = env::args(rt)?.skip(1).collect(rt.alloc())?;
+        // No `?`: a list of another length is no error that a call hands on.
         let [format, cells, rounds] = words.as_slice() else {
             return Err(anyhow::anyhow!("usage: pace FORMAT CELLS ROUNDS"));
         };

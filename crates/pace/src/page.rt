@@ -5,6 +5,7 @@ use std::alloc::{AllocError, Global};
 /// A page of so many cells of the letter `a`, ten a line.
 pub fn text(heap: Global, format: Format, cells: usize) -> Result<Vec<u8>, AllocError> {
     let mut text = Vec::new(heap);
+    // A range, since no list is gone through: the number says where a line ends.
     for cell in 0..cells {
         let last = cell % 10 == 9 || cell + 1 == cells;
         match (format, last) {
