@@ -81,6 +81,9 @@ impl<'r, 's, F: Format> Reader<'r, 's, F> {
     }
 
     /// What the token in front does, and the reader behind it.
+    // Always inlined, as is `next`: a step that is a function of its own copies the reader in and out, and so takes as long
+    // again as all else that is done with a token.
+    #[inline(always)]
     fn step(self) -> (Option<Step>, Self)
         ensures { StepIs F.Format.role self.entry result.0 result.1 }
     {
@@ -141,6 +144,7 @@ impl<'r, 's, F: Format> Iterator for Reader<'r, 's, F> {
 
     ghost remaining = { λ r. at_most (max_tokens - reach F.Format.role r) };
 
+    #[inline(always)]
     fn next(&mut self) -> Option<Step> {
         let (step, behind) = self.step();
         *self = behind;

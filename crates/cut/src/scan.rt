@@ -40,11 +40,12 @@ impl Tail {
         ensures { result ≡ tail_with self (number_of kind) }
     {
         match (self, kind) {
+            // Asked first, as the loop over the pieces asks it: most of them are no blanks.
+            (_, kind) if !is_blank(kind) => Tail::Nothing,
             (Tail::Nothing, Kind::Newline) => Tail::Newline,
             (Tail::Newline, Kind::Newline) => Tail::Blank,
             (Tail::Nothing | Tail::Newline, Kind::Whitespace) => Tail::Other,
-            (tail, Kind::Newline | Kind::Whitespace) => tail,
-            _ => Tail::Nothing,
+            (tail, _) => tail,
         }
     }
 }
@@ -102,20 +103,24 @@ impl<'r, 's, F: Format> Reader<'r, 's, F> {
         ensures stays { OnErr result (Same pieces.old pieces.new) }
         ensures full { OnErr result (room pieces.old < length (entries pieces.old) + count) }
     {
+        // No token is read behind the last piece, since its role may be the start of the next cell.
+        if count == 0 {
+            return Ok(());
+        }
         let used = pieces.len();
         // Counted by hand, since `take` on the steps would count what is dropped too. Tried as
         // `for piece in self.filter_map(..).take(count)`: the check could not state what the loop goes over.
         let mut wanted = count;
         'pieces: for step in self {
-            if wanted == 0 {
-                break;
-            }
             if let Step::Takes { piece, .. } = step {
                 let Ok(_) = pieces.push(piece) else {
                     pieces.truncate(used);
                     return Err(CutRefusal::NoRoom);
                 };
                 wanted -= 1;
+                if wanted == 0 {
+                    break;
+                }
             }
         }
         Ok(())

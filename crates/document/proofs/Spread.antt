@@ -4,7 +4,6 @@ use Rattle.std.proofs.Common.{◌≡◌, ℕ, zero, suc, ◌+◌, ◌-◌, ◌^�
 use lib.Seq.{take-append-add}
 use Rattle.std.specs.List.{flat_map}
 use Rattle.std.proofs.lemmas.Grind.{flat_map-append}
-use Rattle.styles.specs.declared.Style.{Style}
 use Rattle.document.specs.declared.columns.Columns.{Columns}
 use Rattle.document.specs.Columns.{HasStyles, AddsStyles, entry_styles}
 use Rattle.std.proofs.lemmas.List.{take_min, length-replicate, length-take, length-drop, length-take-le, take_all, take-replicate, take-append-le, append-nil}
@@ -75,11 +74,11 @@ pub holds_more : (entries : List (List ℕ)) (entry : List ℕ) (c d : Columns) 
     → AddsStyles c d (entry_styles entry) → HasStyles d (flat_map entry_styles (entries ++ entry ∷ []))
 holds_more entries entry c d h a =
     let all : flat_map entry_styles (entries ++ entry ∷ []) ≡ flat_map entry_styles entries ++ entry_styles entry =
-    flat_map-append entry_styles entries (entry ∷ []) ∙ ap (λ (l : List Style). flat_map entry_styles entries ++ l) (append-nil (entry_styles entry)) in
+    flat_map-append entry_styles entries (entry ∷ []) ∙ ap (λ (l : List ℕ). flat_map entry_styles entries ++ l) (append-nil (entry_styles entry)) in
     let size : length (flat_map entry_styles (entries ++ entry ∷ [])) ≡ length (flat_map entry_styles entries) + length (entry_styles entry) =
     ap length all ∙ length-append (flat_map entry_styles entries) (entry_styles entry) in
     record {
       count = omega (arith, size, a.count, h.count);
-      kept = a.kept ∙ ap (λ (l : List Style). take 64 (l ++ entry_styles entry)) h.kept
+      kept = a.kept ∙ ap (λ (l : List ℕ). take 64 (l ++ entry_styles entry)) h.kept
           ∙ take_front 64 (flat_map entry_styles entries) (entry_styles entry) ∙ ap (take 64) (sym all);
     }

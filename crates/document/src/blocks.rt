@@ -15,7 +15,11 @@ use std::alloc::{AllocError, Global};
 fn find_closing<'a>(lines: &mut Lines<'a>, opening: &[u8]) -> Option<Line<'a>>
     ensures { Finds lines.old opening.now result lines.new }
 {
-    lines.find(|line| line.bytes == opening)
+    // Searched in lines of its own, since what is lent is written to memory at each line.
+    let mut left = *lines;
+    let found = left.find(|line| line.bytes == opening);
+    *lines = left;
+    found
 }
 
 /// The table between an opening line, with this first byte, and a closing line, under these attributes.

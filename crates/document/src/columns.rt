@@ -1,6 +1,7 @@
 // The columns that a table is given: how many, and in what style their cells are written.
 ghost use Rattle.std.specs.Prelude.{◌≡◌, replicate};
 ghost use Rattle.document.specs.Columns.{kept_of, HasStyles, AddsStyles, style_of, times_of, entry_mark, entry_styles, styles_between, all_styles};
+ghost use Rattle.styles.specs.Styles.{number_of};
 
 use crate::bytes::{all_digits, leading_digits, trim, value_of};
 use styles::Style;
@@ -16,19 +17,20 @@ pub const MAX_STYLES: usize = 64;
 pub struct Columns {
     /// how many there are, or the largest `usize` where that is less
     pub count: usize,
-    /// the styles of the first ones; what stands past the last column means nothing
-    pub styles: [Style; MAX_STYLES],
+    /// the styles of the first ones, by their numbers; what stands past the last column means nothing
+    // Numbers and not `Style`: columns can be built by hand, and every number in them is kept as it is.
+    pub styles: [u8; MAX_STYLES],
 }
 
 impl Columns {
     /// No columns.
     pub const NONE: Columns = Columns {
         count: 0,
-        styles: [Style::Default; MAX_STYLES],
+        styles: [Style::Default as u8; MAX_STYLES],
     };
 
-    /// The styles of the columns, but of the first 64 alone where there are more.
-    pub fn kept(&self) -> &[Style]
+    /// The styles of the columns by their numbers, but of the first 64 alone where there are more.
+    pub fn kept(&self) -> &[u8]
         ensures { result.now ≡ kept_of self.now }
     {
         &self.styles[..self.count.min(MAX_STYLES)]
@@ -36,12 +38,12 @@ impl Columns {
 
     /// With so many more columns of one style behind these.
     fn with(self, times: usize, style: Style) -> Columns
-        ensures { AddsStyles self result (replicate times style) }
+        ensures { AddsStyles self result (replicate times (number_of style)) }
     {
         let from = self.count.min(MAX_STYLES);
         let count = self.count.saturating_add(times);
         let mut styles = self.styles;
-        styles[from..count.min(MAX_STYLES)].fill(style);
+        styles[from..count.min(MAX_STYLES)].fill(style.number());
         Columns { count, styles }
     }
 

@@ -19,7 +19,7 @@ pub struct Line<'a> {
 }
 
 /// The lines of a text that are left: those from an offset on, at which one begins, or none at the text's end.
-#[derive(Debug, Drop)]
+#[derive(Clone, Copy, Debug)]
 pub struct Lines<'a> {
     pub text: &'a [u8],
     pub at: usize,

@@ -81,10 +81,10 @@ fn attribute_lines(rt: HostRuntime) {
     assert!(rt;
         b.columns.kept()
             == [
-                Style::Default,
-                Style::Monospace,
-                Style::Monospace,
-                Style::AsciiDoc
+                Style::Default.number(),
+                Style::Monospace.number(),
+                Style::Monospace.number(),
+                Style::AsciiDoc.number()
             ]
             .as_slice()
     );
@@ -99,6 +99,20 @@ fn many_columns(rt: HostRuntime) {
     );
     assert!(rt; a.options.header);
     assert_eq!(rt; Attributes::NONE.with_line(b"[[cols=2]]").columns.count, 0);
+}
+
+#[test]
+fn columns_by_hand(rt: HostRuntime) {
+    let columns = Columns {
+        count: 2,
+        styles: [9; MAX_STYLES],
+    };
+    assert!(rt; columns.kept() == [9, 9].as_slice());
+    let given = Attributes {
+        columns,
+        ..Attributes::NONE
+    };
+    assert!(rt; given.with_line(b"[%footer]").columns.kept() == [9, 9].as_slice());
 }
 
 #[test]

@@ -4,7 +4,6 @@ use sheet::{Piece, Position, SheetRefusal};
 use starts::{Horizontal, Specifier, Vertical};
 use std::error::Error;
 use std::{fmt, io};
-use styles::Style;
 
 /// What is refused in a case.
 #[derive(Clone, Copy, Debug, PartialEq, Eq, Hash)]
@@ -95,9 +94,10 @@ impl fmt::Display for Written<Vertical> {
     }
 }
 
-impl fmt::Display for Written<Style> {
+/// The number of a style.
+impl fmt::Display for Written<u8> {
     fn fmt<W: fmt::Write>(&self, f: &mut fmt::Formatter<W>) -> fmt::Result {
-        write!(f, "{}", self.0.number())
+        write!(f, "{}", self.0)
     }
 }
 

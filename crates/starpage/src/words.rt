@@ -101,7 +101,7 @@ impl fmt::Display for Said<&Columns> {
         write!(f, "{}", columns.count)?;
         let styled = (1usize..=document::MAX_STYLES)
             .zip(columns.kept())
-            .map(|(place, style)| Pair(place, *style))
+            .map(|(place, number)| Pair(place, Style::try_from(*number).unwrap_or_default()))
             .filter(|column| column.1 != Style::Default);
         write_list(f, styled, " (", ")", "")
     }
@@ -235,6 +235,7 @@ impl fmt::Display for Said<Specifier> {
         if columns != 1 || rows != 1 {
             f.write_str("+")?;
         }
+        let style = style.and_then(|number| Style::try_from(number).ok());
         write!(f, "{}{}{} ", Said(horizontal), Said(vertical), Said(style))
     }
 }

@@ -2,8 +2,10 @@
 -- Assumes nothing.
 use Rattle.std.proofs.Common.{◌≡◌, ℕ, zero, suc, ◌+◌, ◌<◌, ◌≤◌, Bool, true, false, cond, ◌&&◌, ltb, List, [], ◌∷◌, length, drop, Some, None, Option, sym, refl, ap, ◌∙◌, subst, arith}
 use Rattle.std.specs.List.{AllByRecursion}
+use Rattle.std.specs.Option.{option_map}
 use Rattle.std.proofs.lemmas.List.{drop-drop, length-drop}
 use Rattle.std.proofs.lemmas.Bool.{and_parts, ltb-true}
+use Rattle.styles.specs.Styles.{number_of}
 use Rattle.styles.specs.declared.Style.{Style}
 use Rattle.styles.specs.declared.Style.TheVariants.{Default, Emphasis, Header, Monospace, Strong, Literal, AsciiDoc}
 use Rattle.sheet.specs.Left.{Left, back_of, behind_bytes, behind_token}
@@ -170,7 +172,7 @@ start_spans sep ts s h =
     let w = wide_part (factor_part ts).left in
     one_of (λ x. (1 ≤ x.specifier.columns) × (1 ≤ x.specifier.rows)) sep (parts_of ts) (λ b. w) (λ n e b f. w) (λ n e b. w) ts s refl (λ b. (omega arith, omega arith)) h
 
-six_of : (o : Option Style) → KnownStyle o
+six_of : (o : Option Style) → KnownStyle (option_map number_of o)
 six_of None = tt
 six_of (Some Default) = omega arith
 six_of (Some Emphasis) = omega arith
@@ -182,4 +184,5 @@ six_of (Some AsciiDoc) = omega arith
 
 -- The style of a start is a known one.
 pub start_style : (sep : ℕ) (ts : List Left) (s : Started) → start_of sep ts ≡ Some s → KnownStyle s.specifier.style
-start_style sep ts s h = six_of s.specifier.style
+start_style sep ts s h =
+    one_of (λ x. KnownStyle x.specifier.style) sep (parts_of ts) (λ b. tt) (λ n e b f. six_of (Some n)) (λ n e b. six_of (Some n)) ts s refl (λ b. tt) h

@@ -1,6 +1,7 @@
 -- Where a cell starts, for a separator byte.
 -- Assumes nothing.
 use Rattle.std.specs.Prelude.{◌≡◌, ℕ, ◌≤◌, Bool, cond, ◌&&◌, ◌||◌, List, [], ◌∷◌, is_some, Some, None, Option, ◌==◌, slice_index}
+use Rattle.std.specs.Option.{option_map}
 use Rattle.styles.specs.Styles.{number_of, style_named}
 use Rattle.styles.specs.declared.Style.{Style}
 use Rattle.sheet.specs.Kinds.{callout_number, caret, digits, dots, greater_than, less_than, word}
@@ -17,9 +18,9 @@ use Rattle.starts.specs.declared.specifier.Start.{Start}
 use Rattle.starts.specs.declared.specifier.Vertical.{Vertical}
 
 -- a style, where one is written, is one of the seven
-abbrev pub KnownStyle : Option Style → Type 0
+abbrev pub KnownStyle : Option ℕ → Type 0
 KnownStyle None = Unit {0}
-KnownStyle (Some s) = number_of s ≤ 6
+KnownStyle (Some n) = n ≤ 6
 
 -- A Word names the style of its first letter.
 abbrev pub style_in : Left → Option Style
@@ -57,7 +58,7 @@ specified p s = record {
   rows = rows_of p.span;
   horizontal = horizontal_of p.alignment;
   vertical = vertical_over p.vertical p.alignment;
-  style = s;
+  style = option_map number_of s;
 }
 
 -- the specifier where nothing is written

@@ -1,6 +1,5 @@
 // What a cell specifier says, and where a cell starts.
 use sheet::Place;
-use styles::Style;
 
 /// Where a cell's content stands from side to side.
 #[derive(Clone, Copy, Debug, PartialEq, Eq, Hash)]
@@ -30,7 +29,10 @@ pub struct Specifier {
     pub rows: u8,
     pub horizontal: Option<Horizontal>,
     pub vertical: Option<Vertical>,
-    pub style: Option<Style>,
+    /// the number of a `Style`
+    // A number and not the enum: another's cutter gives specifiers of its own, and the enum would ask more of whoever
+    // writes one.
+    pub style: Option<u8>,
 }
 
 impl Specifier {

@@ -87,7 +87,7 @@ impl Parts {
             rows: span.rows,
             horizontal: self.horizontal(),
             vertical: self.vertical(),
-            style,
+            style: style.map(Style::number),
         }
     }
 }

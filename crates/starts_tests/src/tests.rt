@@ -5,7 +5,6 @@ use starts::{Horizontal, Start, Vertical, read_start};
 use std::alloc::Global;
 use std::process::Abort;
 use std::test::Fail;
-use styles::Style;
 
 /// A specifier as six bytes, where `-` stands for what is missing: factor, columns, rows, `<` `>` or `^` for the
 /// horizontal and for the vertical alignment, style.
@@ -22,7 +21,7 @@ fn said(start: Start) -> [u8; 6] {
         Some(Vertical::Middle) => b'^',
         None => b'-',
     };
-    let style = start.specifier.style.map_or(b'-', Style::number);
+    let style = start.specifier.style.unwrap_or(b'-');
     [
         start.specifier.factor,
         start.specifier.columns,

@@ -1,4 +1,4 @@
-use Rattle.std.proofs.Common.{[], ◌∷◌, ◌++◌, Some, ap, ◌∙◌}
+use Rattle.std.proofs.Common.{◌≡◌, [], ◌∷◌, ◌++◌, Some, ap, ◌∙◌, arith}
 use Rattle.store.specs.Entries.{entries}
 use Rattle.cut.specs.Notes.{number_of}
 use Rattle.cut.specs.Readers.{gives_at}
@@ -11,7 +11,9 @@ pub notes-preserved-in-Ok-1 : goal.notes-preserved-in-Ok-1
 notes-preserved-in-Ok-1 g c =
     let n = gives_at _ _ _ _ (ap Some c.in-Notes.is) c.in-Some.ensures.steps.gives in
     let p = c.in-Ok.ensures in
-    let same = ap (λ (x : Note). entries c.notes.notes ++ x ∷ []) (c.at.ensures ∙ ap (note_at (number_of c.args.kind)) n.2) in
+    let number = number_of c.args.kind in
+    let same : (entries c.notes.notes ++ c.at.result ∷ []) ≡ (entries c.notes.notes ++ note_at number n.0.number ∷ []) =
+    ap (λ (x : Note). entries c.notes.notes ++ x ∷ []) (c.at.ensures ∙ ap (note_at number) (omega (arith, n.2))) in
     record {
       can = tt;
       finite = tt;

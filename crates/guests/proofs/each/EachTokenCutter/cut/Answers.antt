@@ -6,10 +6,8 @@ use Rattle.std.specs.Prelude.{◌==◌}
 use Rattle.store.specs.Entries.{entries}
 use Rattle.sheet.specs.Kinds.{newline, number_of}
 use Rattle.sheet.specs.Left.{left, left_at, seen_at}
-use Rattle.sheet.specs.Places.{front_of}
 use Rattle.sheet.specs.View.{view}
 use Rattle.sheet.specs.declared.records.Piece.{Piece}
-use Rattle.sheet.specs.declared.records.Place.{Place}
 use Rattle.sheet.specs.declared.records.Position.{Position}
 use Rattle.cut.proofs.Adds.{added_none, unchanged}
 use Rattle.guests.specs.Each.{each_cell, each_cells}
@@ -46,8 +44,8 @@ returns c =
     let ok : is_ok c.push.result ≡ true = sym c.map_err.ensures.variant ∙ ap is_ok c.in_ok-map_err.was in
     let line : c.eq.result ≡ (number_of c.in-Some.seen.kind == newline) = search rules in
     let cell = each_cell (seen_at c.in-Some.seen) in
-    let next = ap (λ (x : Place). front_of (x.token + 1)) (sym c.in-Some.ensures.here) ∙ sym c.behind.ensures in
-    let rest = ap (λ (x : Place). cell ∷ map each_cell (left_at v x)) next ∙ ap (λ (x : Position). cell ∷ each_cells v x) (sym c.position.ensures) in (
+    let place : record { token = c.from.result.token + 1; offset = 0; separated = false } ≡ c.position.result = search rules in
+    let rest = ap (λ (x : Position). cell ∷ each_cells v x) place in (
       each_cell (seen_at c.in-Some.seen),
       page k ∙ rest,
       record { first = refl; specifier = refl; line_end = line; blank_after = refl; blank_inside = refl; notes = refl; first_note = refl },
