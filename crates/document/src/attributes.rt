@@ -235,20 +235,18 @@ impl Attributes {
         }
     }
 
-    /// With an item of a list, which is the list's first or a later one.
-    fn with_item(self, item: &[u8], first: bool) -> Attributes
-        ensures { said result ≡ with_item (said self) item.now first }
+    /// Takes in an item of a list, which is the list's first or a later one.
+    // In place, and the loop below is no fold: to move the attributes at each item took three times as long on a list of
+    // items that say nothing.
+    fn add_item(&mut self, item: &[u8], first: bool)
+        ensures { said self.new ≡ with_item (said self.old) item.now first }
     {
         match item.split_at(find(item, b'=')) {
-            (name, [_, value @ ..]) => match name_of(trim(name)) {
-                Some(name) => self.with_value(name, unquoted(trim(value))),
-                None => self,
+            (name, [_, value @ ..]) => if let Some(name) = name_of(trim(name)) {
+                *self = self.with_value(name, unquoted(trim(value)));
             },
-            (_, []) if first => Attributes {
-                options: self.options.with_shorthand(item),
-                ..self
-            },
-            (_, []) => self,
+            (_, []) if first => self.options = self.options.with_shorthand(item),
+            (_, []) => {}
         }
     }
 
@@ -256,11 +254,10 @@ impl Attributes {
     fn with_list(self, list: &[u8]) -> Attributes
         ensures { said result ≡ with_list (said self) list.now }
     {
-        // A loop and no fold: a fold moves the attributes once more at each item, and took three times as long.
         let mut attributes = self;
         let mut first = true;
         for item in Items(Some(list)) {
-            attributes = attributes.with_item(trim(item), first);
+            attributes.add_item(trim(item), first);
             first = false;
         }
         attributes

@@ -38,27 +38,22 @@ impl From<io::Error> for Stopped<'_> {
     }
 }
 
-/// The bytes of standard input.
-// Never inlined: a reader keeps 8 KiB on the stack, and the help, the complaints and a file need none of them.
-#[inline(never)]
-fn read_input<R: Input + AllocGlobal>(rt: &R) -> io::Result<Vec<u8>> {
-    let mut text = Vec::new(rt.alloc());
-    rt.reader().read_to_end(&mut text)?;
-    Ok(text)
-}
-
 /// The bytes of a document: of the file of this name, or of standard input where there is none.
 fn read_document<R: Input + Files + AllocGlobal>(
     rt: &R,
     name: Option<&str>,
 ) -> io::Result<Vec<u8>> {
-    match name {
-        Some(path) => fs::read(rt, path),
-        None => read_input(rt),
+    if let Some(path) = name {
+        return fs::read(rt, path);
     }
+    let mut text = Vec::new(rt.alloc());
+    rt.reader().read_to_end(&mut text)?;
+    Ok(text)
 }
 
 /// Prints the account of a document.
+// Never inlined: the help and the complaints of the command line need not have the stack that this needs.
+#[inline(never)]
 fn give_account<'a, R: Print + Input + Files + AllocGlobal>(
     rt: &R,
     name: Option<&'a str>,

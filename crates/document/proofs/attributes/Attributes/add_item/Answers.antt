@@ -4,7 +4,7 @@ use Rattle.std.proofs.lemmas.Bool.{cond-true}
 use Rattle.document.specs.Bytes.{before, trim}
 use Rattle.document.specs.Attributes.{Said, said, name_of, unquoted, with_value, with_named, with_short, with_item}
 use Rattle.document.specs.declared.attributes.Name.{Name}
-use Rattle.document.proofs.attributes.Attributes.with_item.Goals as goal
+use Rattle.document.proofs.attributes.Attributes.add_item.Goals as goal
 
 -- an item with a `=`, by what stands on its two sides
 named : (s : Said) (item front more : List ℕ) (first : Bool) (n : ℕ) → n ≡ before 61 item → front ≡ take n item → more ≡ drop n item → 0 < length more
@@ -22,7 +22,7 @@ named s item front more first n e f m some =
 
 pub returns-in-Some : goal.returns-in-Some
 returns-in-Some c =
-    let s = said c.args.self in
+    let s = said c.args.self.now in
     let e = named s c.args.item.now c.split_at.result.0.now c.split_at.result.1.now c.args.first
     c.find.result c.find.ensures.value c.split_at.ensures.front c.split_at.ensures.back (omega arith) in
     c.with_value.ensures
