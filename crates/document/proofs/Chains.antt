@@ -1,6 +1,6 @@
 -- What chains of iterators come to: a `fold` by what each step keeps, and the count of a `take_while`.
 -- Assumes nothing.
-use Rattle.std.proofs.Common.{◌≡◌, ◌==◌, ℕ, ◌+◌, Bool, true, false, Option, List, [], ◌∷◌, ◌++◌, length, fold, sym, refl, ap, ◌∙◌, arith}
+use Rattle.std.proofs.Common.{◌≡◌, ℕ, Bool, true, false, Option, List, [], ◌∷◌, ◌++◌, length, ◌∙◌}
 use Rattle.std.specs.Fn.{Called}
 use Rattle.std.specs.Iterator.{Drains}
 use Rattle.std.specs.List.{FoldsTo}
@@ -9,10 +9,9 @@ use Rattle.std.proofs.lemmas.Iterator.{YieldsList}
 use Rattle.std.specs.Fn.{CalledAt}
 use Rattle.std.specs.declared.iter.TakeWhile.{TakeWhile}
 use Rattle.std.specs.Iterator.Adapters.{take_while_source, take_while_callee, take_while_done, take_while_steps}
-use Rattle.std.specs.List.{prefix_len, enumerate_from}
+use Rattle.std.specs.List.{prefix_len}
 use Rattle.std.proofs.lemmas.Iterator.Consumers.{YieldsList-at, count_from_yields_List}
 use Rattle.std.proofs.lemmas.Iterator.Search.{YieldsList-from_take_while}
-use Rattle.std.proofs.lemmas.Bool.{ne_eqb}
 use Rattle.std.proofs.lemmas.List.Folds.{length-prefix_len}
 use denote.Param.Members.{Mut}
 use denote.Ref.{Bor}
@@ -35,20 +34,3 @@ pub count_while : {S A B F : Type 0} {steps : S → Option A → S → Type 0} {
     → r ≡ prefix_len test ys
 count_while {g = g} {s = s} {r = r} test ys ran source callee done e calls =
     count_from_yields_List s r ran (YieldsList-from_take_while g test (YieldsList-at source e) callee done calls) ∙ length-prefix_len test ys
-
--- a `fold` over items with their numbers, where only the first item is taken another way
-module _ {S X : Type 0} (h : S → X → Bool → S) (w : Bool → S → List X → S) (none : (b : Bool) (s : S) → w b s [] ≡ s)
-    (more : (b : Bool) (s : S) (x : X) (xs : List X) → w b s (x ∷ xs) ≡ w false (h s x b) xs) where
-  abbrev pub numbered : S → ℕ × X → S
-  numbered s p = h s p.1 (p.0 == 0)
-
-  later : (n : ℕ) → (n == 0) ≡ false → (s : S) (xs : List X) → fold numbered s (enumerate_from n xs) ≡ w false s xs
-  later n e s [] = sym (none false s)
-  later n e s (x ∷ xs) =
-      ap (λ (b : Bool). fold numbered (h s x b) (enumerate_from (n + 1) xs)) e
-      ∙ later (n + 1) (ne_eqb (n + 1) 0 (λ z. omega arith)) (h s x false) xs
-      ∙ sym (more false s x xs)
-
-  pub fold-enumerated : (s : S) (xs : List X) → fold numbered s (enumerate_from 0 xs) ≡ w true s xs
-  fold-enumerated s [] = sym (none true s)
-  fold-enumerated s (x ∷ xs) = later 1 refl (h s x true) xs ∙ sym (more true s x xs)

@@ -74,12 +74,10 @@ pub fn trim_start(bytes: &[u8]) -> &[u8]
 pub fn trim_end(bytes: &[u8]) -> &[u8]
     ensures { result.now ≡ trim_end bytes.now }
 {
-    let blanks = bytes
-        .iter()
-        .rev()
-        .take_while(|byte| is_blank(**byte))
-        .count();
-    &bytes[..bytes.len() - blanks]
+    match bytes.iter().rposition(|byte| !is_blank(*byte)) {
+        Some(last) => &bytes[..=last],
+        None => &[],
+    }
 }
 
 /// The bytes without the blanks around them.

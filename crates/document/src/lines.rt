@@ -69,7 +69,7 @@ impl<'a> Iterator for Lines<'a> {
         }
         let rest = &self.text[start..];
         let size = find(rest, b'\n');
-        let next = self.text.len().min(start + size + 1);
+        let next = start + rest.len().min(size + 1);
         let before = self.before;
         self.at = next;
         self.before = before + 1;

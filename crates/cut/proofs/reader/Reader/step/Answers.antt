@@ -111,7 +111,7 @@ returns-in-Notes g c =
     subst (StepIs g.F.Format.role c.args.self _) (sym c.further-in-Notes.ensures)
     (record {
       sheet = refl;
-      gives = (t, by_front g k Notes c.in-Notes.ensures.value ∙ ap (noted t) (behind_it g k Plain c.behind-in-Notes.result c.behind-in-Notes.ensures), refl, c.in-Some.seen.few);
+      gives = (t, by_front g k Notes c.in-Notes.ensures.value ∙ ap (noted t) (behind_it g k Plain c.behind-in-Notes.result c.behind-in-Notes.ensures), omega arith, omega (arith, c.in-Some.seen.few));
       closed = search rules;
       further = on_it g k c.behind-in-Notes.result c.behind-in-Notes.ensures;
     })

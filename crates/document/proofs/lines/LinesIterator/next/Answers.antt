@@ -13,6 +13,6 @@ invariant_of-self c =
     let size : c.find-size.result ≡ size_at s.text.now s.at =
     c.find-size.ensures.value
     ∙ ap (before 10) (take_all (length s.text.now - s.at) (drop s.at s.text.now) (simp length-drop (omega arith))) in
-    let next : next_at s.text.now s.at ≡ c.min-next.result = omega (arith, size) in
+    let next : next_at s.text.now s.at ≡ s.at + c.min.result = omega (arith, size) in
     let st = subst (λ (n : ℕ). Stands s.text.now n (s.before + 1)) next (stands_next s.text.now s.at (omega arith) s.before (stands_at s)) in
     record { within = st.within; few = st.few; begins = st.begins; counted = st.counted }
