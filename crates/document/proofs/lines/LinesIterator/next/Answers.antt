@@ -15,4 +15,4 @@ invariant_of-self c =
     ∙ ap (before 10) (take_all (length s.text.now - s.at) (drop s.at s.text.now) (simp length-drop (omega arith))) in
     let next : next_at s.text.now s.at ≡ s.at + c.min.result = omega (arith, size) in
     let st = subst (λ (n : ℕ). Stands s.text.now n (s.before + 1)) next (stands_next s.text.now s.at (omega arith) s.before (stands_at s)) in
-    record { within = st.within; few = st.few; begins = st.begins; counted = st.counted }
+    record { within = st.within; few = omega (arith, st.few); begins = st.begins; counted = λ inside. omega (arith, st.counted inside) }
